@@ -1,0 +1,15 @@
+pub mod Counts
+pub mod Maps
+pub mod Ordering
+pub mod Applying
+pub mod Sound
+pub mod Growth
+pub mod Lines
+pub mod Prints
+pub mod Rids
+pub mod Turned
+pub mod Batches
+pub mod Runs
+pub mod Advance
+pub mod Endings
+pub mod Replays

@@ -1,0 +1,39 @@
+-- A member of a group as it begins, and what holds of every member that can be reached.
+use Rattle.std.specs.Prelude.{◌≡◌, ◌+◌, ◌≤◌, ◌^◌, [], length, None, All, slice_index_or}
+use Rattle.std.specs.FinMap as map
+use Rattle.r2_base.specs.declared.addr.Addr.{Addr}
+use Rattle.hc_tops.specs.declared.setup.Setup.{Setup}
+use Rattle.hc_tops.specs.declared.member.Member.{Member}
+use Rattle.hc_tops.specs.declared.member.Role.TheVariants.{Follower, Leader}
+
+-- a member that has nothing yet
+unfoldable pub begin : Member
+begin =
+    record {
+      term = 0;
+      vote = None;
+      log = [];
+      role = Follower;
+      commit = 0;
+      applied = 0;
+      pending = 0;
+      pool = [];
+      term_start = 0;
+      queues = [];
+      store = map.empty;
+      silent = 0;
+    }
+
+-- the address of the replica itself
+abbrev pub own_address : Setup → Addr
+own_address s = slice_index_or s.members s.me (record { ip = 0; port = 0 })
+
+-- what holds of every member that can be reached
+pub record IsSound (s : Setup) (m : Member) : Type 0 where
+  pub batch : m.applied + m.pending ≤ m.commit
+  pub committed : m.commit ≤ length m.log
+  pub log_fits : length m.log ≤ 2 ^ 62
+  pub term_fits : m.term ≤ 2 ^ 62
+  pub bodies : All (λ stored. length stored.body ≤ 61440) m.log
+  pub pool_bodies : All (λ r. length r.body ≤ 61440) m.pool
+  pub queued : m.role ≡ Leader → length m.queues ≡ length s.members

@@ -1,0 +1,102 @@
+ghost use Rattle.std.specs.Prelude.{◌≡◌, ◌≤◌, None, IfErr, OnOk};
+ghost use Rattle.std.specs.Io.KnownBytes.{Appends};
+ghost use Rattle.r2_link.specs.Streams.{AppendsFront};
+ghost use Rattle.hc_tops.specs.Member.{IsSound};
+ghost use Rattle.hc_tops.specs.Replay.{IsAlone};
+ghost use Rattle.hc_tops.specs.Turn.{finished, turned};
+ghost use Rattle.hc_tops.specs.Printed.{turn_text};
+ghost use Rattle.hc_tops.specs.Script.{last_text};
+ghost use Rattle.hc_tops.specs.Stops.{StopsBySink};
+
+use crate::member::Member;
+use crate::print::print_turn;
+use crate::setup::Setup;
+use crate::status::Status;
+use r2_base::Event;
+use r2_link::Sink;
+use std::alloc::Global;
+
+/// Makes one turn of a member and prints it: the record before the datagrams, those of what was pending first.
+pub(crate) fn take_turn<K: Sink>(
+    alloc: Global,
+    setup: &Setup,
+    member: &mut Member,
+    event: &Event,
+    sink: &mut K,
+) -> Result<(), Status>
+    requires alone { IsAlone setup.now }
+    requires sound { IsSound setup.now member.old }
+
+    ensures state { OnOk result (member.new ≡ (turned setup.now member.old event.now).member) }
+    ensures whole { OnOk result (Appends (K.written sink.old) (K.written sink.new)
+        (turn_text (turned setup.now member.old event.now).stored (turned setup.now member.old event.now).sends)) }
+    ensures front { AppendsFront (K.written sink.old) (K.written sink.new)
+        (turn_text (turned setup.now member.old event.now).stored (turned setup.now member.old event.now).sends) }
+
+    ensures stops { IfErr result (λ status. StopsBySink (K.faults sink.old) (K.faults sink.new) status) }
+    ensures steady { K.faults sink.old ≤ K.faults sink.new }
+{
+    let Ok(replies) = member.finish(alloc, setup) else {
+        return Err(Status::Memory);
+    };
+    let Ok(turn) = member.react(alloc, setup, event) else {
+        return Err(Status::Memory);
+    };
+    if let Err(status) = print_turn(alloc, sink, &turn.stored, replies.as_slice()) {
+        return Err(status);
+    }
+    if let Err(status) = print_turn(alloc, sink, &None, turn.sends.as_slice()) {
+        return Err(status);
+    }
+    Ok(())
+}
+
+/// Applies one batch of what is committed, and prints the replies.
+fn take_batch<K: Sink>(
+    alloc: Global,
+    setup: &Setup,
+    member: &mut Member,
+    sink: &mut K,
+) -> Result<(), Status>
+    requires alone { IsAlone setup.now }
+    requires sound { IsSound setup.now member.old }
+
+    ensures state { OnOk result (member.new ≡ (finished setup.now member.old).member) }
+    ensures whole { OnOk result (Appends (K.written sink.old) (K.written sink.new) (turn_text None (finished setup.now member.old).sends)) }
+    ensures front { AppendsFront (K.written sink.old) (K.written sink.new) (turn_text None (finished setup.now member.old).sends) }
+
+    ensures stops { IfErr result (λ status. StopsBySink (K.faults sink.old) (K.faults sink.new) status) }
+    ensures steady { K.faults sink.old ≤ K.faults sink.new }
+{
+    let Ok(replies) = member.finish(alloc, setup) else {
+        return Err(Status::Memory);
+    };
+    if let Err(status) = print_turn(alloc, sink, &None, replies.as_slice()) {
+        return Err(status);
+    }
+    Ok(())
+}
+
+/// Applies all that is committed, batch by batch, and prints the replies.
+pub(crate) fn close<K: Sink>(
+    alloc: Global,
+    setup: &Setup,
+    member: &mut Member,
+    sink: &mut K,
+) -> Result<(), Status>
+    requires alone { IsAlone setup.now }
+    requires sound { IsSound setup.now member.old }
+
+    ensures whole { OnOk result (Appends (K.written sink.old) (K.written sink.new) (last_text setup.now member.old)) }
+    ensures front { AppendsFront (K.written sink.old) (K.written sink.new) (last_text setup.now member.old) }
+
+    ensures stops { IfErr result (λ status. StopsBySink (K.faults sink.old) (K.faults sink.new) status) }
+    ensures steady { K.faults sink.old ≤ K.faults sink.new }
+{
+    'batches: while member.applied != member.commit {
+        if let Err(status) = take_batch(alloc, setup, member, sink) {
+            return Err(status);
+        }
+    }
+    Ok(())
+}

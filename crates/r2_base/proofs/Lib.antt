@@ -1,0 +1,4 @@
+pub mod AddrTexts
+pub mod Decimals
+pub mod NumberBytes
+pub mod Splits

@@ -1,0 +1,3 @@
+pub mod Addr
+pub mod Numbers
+pub mod Text

@@ -1,0 +1,5 @@
+pub mod Span
+pub mod Table
+pub mod Header
+pub mod Reading
+pub mod Laws

@@ -1,0 +1,17 @@
+//! Headers of R2P2 packets: what each type of packet may say, the one spelling of a header, and its reading.
+#![tactic(auto)]
+
+mod header;
+mod header_fault;
+pub mod laws;
+mod packet;
+mod reading;
+mod span;
+mod table;
+mod writing;
+
+pub use header::Header;
+pub use header_fault::HeaderFault;
+pub use packet::Packet;
+pub use reading::read;
+pub use writing::write;

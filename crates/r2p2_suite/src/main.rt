@@ -1,0 +1,37 @@
+//! Request-response pairs over UDP, a request router, and a replicated key-value store, in one program.
+#![tactic(auto)]
+
+use hc_tops::{Status, report, run};
+use r2_link::{StdErrors, StdSink, StdSource};
+use std::io::ErrorKind;
+use std::process::ExitCode;
+use std::rt::Env;
+use std::{env, io};
+
+/// The words behind the program's own name.
+fn words(rt: &(impl Env + AllocGlobal)) -> io::Result<Vec<String>> {
+    let mut words = Vec::new(rt.alloc());
+    for word in env::args(rt)?.skip(1) {
+        words.push(word)?;
+    }
+    Ok(words)
+}
+
+fn main(rt: HostRuntime) -> ExitCode {
+    let alloc = rt.alloc();
+    let mut source = StdSource::new(&rt);
+    let mut sink = StdSink::new(&rt);
+    let mut errors = StdErrors::new(&rt);
+    let status = match words(&rt) {
+        Ok(words) => run(alloc, words.as_slice(), &mut source, &mut sink, &mut errors),
+        // Words that aren't text are no words that the program understands.
+        Err(error) if error.kind() == ErrorKind::InvalidData => {
+            run(alloc, &[], &mut source, &mut sink, &mut errors)
+        }
+        Err(_) => {
+            report(&mut errors, Status::Memory);
+            Status::Memory
+        }
+    };
+    ExitCode::from(status.code())
+}
