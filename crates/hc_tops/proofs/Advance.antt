@@ -9,8 +9,8 @@ use Rattle.hc_tops.specs.declared.line.Line.{Line}
 use Rattle.hc_tops.specs.declared.setup.Setup.{Setup}
 use Rattle.hc_tops.specs.declared.member.Member.{Member}
 use Rattle.hc_tops.specs.declared.status.Status.{Status}
-use Rattle.hc_tops.specs.declared.status.Status.TheVariants.{Done, BadWords, Memory, SourceFault, SinkFault, TurnsSpent, NotBuilt}
-use Rattle.hc_tops.specs.Script.{IsText, IsRefused, Say, AreLines, AreBuilt, after, line_turn, line_text, turns_text, fed}
+use Rattle.hc_tops.specs.declared.status.Status.TheVariants.{Done, BadWords, BadScript, Memory, SourceFault, SinkFault, TurnsSpent, NotBuilt}
+use Rattle.hc_tops.specs.Script.{IsText, Refusal, Outside, Unbuilt, IsRefused, Say, AreLines, AreBuilt, after, line_turn, line_text, turns_text, fed}
 use Rattle.hc_tops.specs.Playback.{Ran, Advanced, Sticks, Breaks, EndsInside, IsRefusedAs, WritesFront, StopsText, StopsPiece}
 
 fed-append : (xs ys : List (List ℕ)) → fed (xs ++ ys) ≡ fed xs ++ fed ys
@@ -111,8 +111,8 @@ module _ (s : Setup) (m n : Member) (p q : List ℕ) (i j : ℕ) (a b c : Option
         unfinished = on.unfinished;
       }
 
-  sticks-then : (line : ℕ) → Sticks s n q j line b c piece' → Sticks s m p i line a c (piece ++ piece')
-  sticks-then line on =
+  sticks-then : (why : Refusal) (line : ℕ) → Sticks s why n q j line b c piece' → Sticks s why m p i line a c (piece ++ piece')
+  sticks-then why line on =
       let long = length-append gone.texts on.texts in
       let ran = gone.ran in
       record {
@@ -125,7 +125,7 @@ module _ (s : Setup) (m n : Member) (p q : List ℕ) (i j : ℕ) (a b c : Option
             ∙ sym (append_assoc (fed (gone.texts ++ on.texts)) on.bad on.rest);
         one_line = on.one_line;
         nonempty = on.nonempty;
-        refused = subst (λ (x : Member). IsRefused x on.bad) (ap (λ (x : Member). after s x on.lines) ran.at ∙ sym (after-append s m ran.lines on.lines)) on.refused;
+        refused = subst (λ (x : Member). IsRefused s why x on.bad) (ap (λ (x : Member). after s x on.lines) ran.at ∙ sym (after-append s m ran.lines on.lines)) on.refused;
         ends = on.ends;
         number = omega (arith, gone.number, on.number, long);
         gave = subst (Appends a c) (written-then s m n ran.lines on.lines ran.at) (Appends-trans a b c _ _ ran.gave on.gave);
@@ -145,7 +145,8 @@ module _ (s : Setup) (m n : Member) (p q : List ℕ) (i j : ℕ) (a b c : Option
 
   -- one piece, and then one that isn't taken whole
   pub StopsPiece-then : (status : Status) → StopsPiece s n q j b c piece' status → StopsPiece s m p i a c (piece ++ piece') status
-  StopsPiece-then (NotBuilt line) on = sticks-then line on
+  StopsPiece-then (BadScript line) on = sticks-then Outside line on
+  StopsPiece-then (NotBuilt line) on = sticks-then Unbuilt line on
   StopsPiece-then SinkFault on = breaks-then on
   StopsPiece-then Memory on = breaks-then on
   StopsPiece-then Done on = absurd on
@@ -158,10 +159,9 @@ ends-more bad [] [] h = h
 ends-more bad [] (b ∷ more) h = inr h
 ends-more bad (b ∷ rest) more h = h
 
--- what stopped in a piece stops in a longer one
-pub StopsPiece-more : (s : Setup) (m : Member) (p : List ℕ) (i : ℕ) (a b : Option (List ℕ)) (piece more : List ℕ) (status : Status)
-    → StopsPiece s m p i a b piece status → StopsPiece s m p i a b (piece ++ more) status
-StopsPiece-more s m p i a b piece more (NotBuilt line) h =
+sticks-more : (s : Setup) (why : Refusal) (m : Member) (p : List ℕ) (i line : ℕ) (a b : Option (List ℕ)) (piece more : List ℕ)
+    → Sticks s why m p i line a b piece → Sticks s why m p i line a b (piece ++ more)
+sticks-more s why m p i line a b piece more h =
     record {
       texts = h.texts;
       lines = h.lines;
@@ -176,7 +176,9 @@ StopsPiece-more s m p i a b piece more (NotBuilt line) h =
       number = h.number;
       gave = h.gave;
     }
-StopsPiece-more s m p i a b piece more SinkFault h =
+
+breaks-more : (s : Setup) (m : Member) (p : List ℕ) (a b : Option (List ℕ)) (piece more : List ℕ) → Breaks s m p a b piece → Breaks s m p a b (piece ++ more)
+breaks-more s m p a b piece more h =
     record {
       texts = h.texts;
       lines = h.lines;
@@ -185,15 +187,14 @@ StopsPiece-more s m p i a b piece more SinkFault h =
       split = sym (append_assoc p piece more) ∙ ap (λ x. x ++ more) h.split ∙ append_assoc (fed h.texts) h.rest more;
       gave = h.gave;
     }
-StopsPiece-more s m p i a b piece more Memory h =
-    record {
-      texts = h.texts;
-      lines = h.lines;
-      rest = h.rest ++ more;
-      known = h.known;
-      split = sym (append_assoc p piece more) ∙ ap (λ x. x ++ more) h.split ∙ append_assoc (fed h.texts) h.rest more;
-      gave = h.gave;
-    }
+
+-- what stopped in a piece stops in a longer one
+pub StopsPiece-more : (s : Setup) (m : Member) (p : List ℕ) (i : ℕ) (a b : Option (List ℕ)) (piece more : List ℕ) (status : Status)
+    → StopsPiece s m p i a b piece status → StopsPiece s m p i a b (piece ++ more) status
+StopsPiece-more s m p i a b piece more (BadScript line) h = sticks-more s Outside m p i line a b piece more h
+StopsPiece-more s m p i a b piece more (NotBuilt line) h = sticks-more s Unbuilt m p i line a b piece more h
+StopsPiece-more s m p i a b piece more SinkFault h = breaks-more s m p a b piece more h
+StopsPiece-more s m p i a b piece more Memory h = breaks-more s m p a b piece more h
 StopsPiece-more s m p i a b piece more Done h = absurd h
 StopsPiece-more s m p i a b piece more BadWords h = absurd h
 StopsPiece-more s m p i a b piece more SourceFault h = absurd h
@@ -227,9 +228,9 @@ push-nonempty : (p : List ℕ) (byte : ℕ) → p ++ byte ∷ [] ≢ []
 push-nonempty [] byte e = cc
 push-nonempty (b ∷ p) byte e = cc
 
--- a line that is too long
+-- a line that is too long is no line of a script
 pub Sticks-long : (s : Setup) (m : Member) (p : List ℕ) (i line : ℕ) (a : Option (List ℕ)) (byte : ℕ) → IsText p → byte ≢ 10 → 8192 ≤ length p → line ≡ i + 1
-    → Sticks s m p i line a a (byte ∷ [])
+    → Sticks s Outside m p i line a a (byte ∷ [])
 Sticks-long s m p i line a byte is other full counted =
     let long = length-append p (byte ∷ []) in
     record {
@@ -275,8 +276,8 @@ Breaks-text s m text a b (inr front) =
       gave = front.2;
     }
 
-Sticks-text : (s : Setup) (m : Member) (text : List ℕ) (i number line : ℕ) (a b : Option (List ℕ)) → IsText text → number ≡ i + 1 → IsRefusedAs m text number line a b → Sticks s m text i line a b (10 ∷ [])
-Sticks-text s m text i number line a b is counted h =
+Sticks-text : (s : Setup) (why : Refusal) (m : Member) (text : List ℕ) (i number line : ℕ) (a b : Option (List ℕ)) → IsText text → number ≡ i + 1 → IsRefusedAs s why m text number line a b → Sticks s why m text i line a b (10 ∷ [])
+Sticks-text s why m text i number line a b is counted h =
     let line_is = h.counted in
     record {
       texts = [];
@@ -287,7 +288,7 @@ Sticks-text s m text i number line a b is counted h =
       split = ap (λ x. (x ++ text) ++ 10 ∷ []) (sym fed-none);
       one_line = is.one_line;
       nonempty = h.nonempty;
-      refused = subst (λ (x : Member). IsRefused x text) (sym (after-none s m)) h.refused;
+      refused = subst (λ (x : Member). IsRefused s why x text) (sym (after-none s m)) h.refused;
       ends = inl refl;
       number = omega (arith, line_is, counted);
       gave = subst (Appends a b) (sym (turns_text-none s m)) (Appends-kept a a b [] (Appends-nil a) h.kept);
@@ -296,7 +297,8 @@ Sticks-text s m text i number line a b is counted h =
 -- why a line wasn't run up to its end
 pub StopsPiece-line : (s : Setup) (m : Member) (text : List ℕ) (i number : ℕ) (a b : Option (List ℕ)) (status : Status) → IsText text → number ≡ i + 1
     → StopsText s m text number a b status → StopsPiece s m text i a b (10 ∷ []) status
-StopsPiece-line s m text i number a b (NotBuilt line) is counted h = Sticks-text s m text i number line a b is counted h
+StopsPiece-line s m text i number a b (BadScript line) is counted h = Sticks-text s Outside m text i number line a b is counted h
+StopsPiece-line s m text i number a b (NotBuilt line) is counted h = Sticks-text s Unbuilt m text i number line a b is counted h
 StopsPiece-line s m text i number a b SinkFault is counted h = Breaks-text s m text a b h
 StopsPiece-line s m text i number a b Memory is counted h = Breaks-text s m text a b h
 StopsPiece-line s m text i number a b Done is counted h = absurd h

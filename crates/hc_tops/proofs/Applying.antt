@@ -27,16 +27,17 @@ pub record Leaves (m n : Member) (count : ℕ) : Type 0 where
   pub commit : n.commit ≡ m.commit
   pub applied : n.applied ≡ m.applied + count
   pub pending : n.pending ≡ m.pending
+  pub unfinished : n.unfinished ≡ m.unfinished
   pub pool : n.pool ≡ m.pool
   pub queues : n.queues ≡ m.queues
 
 entry_applied-leaves : (s : Setup) (m : Member) (stored : Stored) (kind : Kind) → Leaves m (entry_applied s m stored kind).member 1
 entry_applied-leaves s m stored Blank =
-    record { term = refl; log = refl; role = refl; commit = refl; applied = refl; pending = refl; pool = refl; queues = refl }
+    record { term = refl; log = refl; role = refl; commit = refl; applied = refl; pending = refl; unfinished = refl; pool = refl; queues = refl }
 entry_applied-leaves s m stored Write =
-    record { term = refl; log = refl; role = refl; commit = refl; applied = refl; pending = refl; pool = refl; queues = refl }
+    record { term = refl; log = refl; role = refl; commit = refl; applied = refl; pending = refl; unfinished = refl; pool = refl; queues = refl }
 entry_applied-leaves s m stored Read =
-    record { term = refl; log = refl; role = refl; commit = refl; applied = refl; pending = refl; pool = refl; queues = refl }
+    record { term = refl; log = refl; role = refl; commit = refl; applied = refl; pending = refl; unfinished = refl; pool = refl; queues = refl }
 
 pub applied_one-leaves : (s : Setup) (m : Member) (stored : Stored) → Leaves m (applied_one s m stored).member 1
 unfolding applied_one
@@ -51,6 +52,7 @@ leaves_both m n o i j first rest =
       commit = rest.commit ∙ first.commit;
       applied = omega (arith, first.applied, rest.applied);
       pending = rest.pending ∙ first.pending;
+      unfinished = rest.unfinished ∙ first.unfinished;
       pool = rest.pool ∙ first.pool;
       queues = rest.queues ∙ first.queues;
     }
@@ -58,7 +60,7 @@ leaves_both m n o i j first rest =
 pub applied_all-leaves : (s : Setup) (m : Member) (entries : List Stored) → Leaves m (applied_all s m entries).member (length entries)
 unfolding applied_all
 applied_all-leaves s m [] =
-    record { term = refl; log = refl; role = refl; commit = refl; applied = omega arith; pending = refl; pool = refl; queues = refl }
+    record { term = refl; log = refl; role = refl; commit = refl; applied = omega arith; pending = refl; unfinished = refl; pool = refl; queues = refl }
 applied_all-leaves s m (stored ∷ more) =
     let n = (applied_one s m stored).member in
     let both = leaves_both m n (applied_all s n more).member 1 (length more) (applied_one-leaves s m stored) (applied_all-leaves s n more) in

@@ -6,7 +6,7 @@ use Rattle.r2_link.proofs.Streams.{Appends-trans, AppendsFront-longer, AppendsFr
 use Rattle.hc_tops.specs.declared.setup.Setup.{Setup}
 use Rattle.hc_tops.specs.declared.member.Member.{Member}
 use Rattle.hc_tops.specs.declared.status.Status.{Status}
-use Rattle.hc_tops.specs.declared.status.Status.TheVariants.{Done, BadWords, Memory, SourceFault, SinkFault, TurnsSpent, NotBuilt}
+use Rattle.hc_tops.specs.declared.status.Status.TheVariants.{Done, BadWords, BadScript, Memory, SourceFault, SinkFault, TurnsSpent, NotBuilt}
 use Rattle.hc_tops.specs.Script.{after, turns_text, last_text}
 use Rattle.hc_tops.specs.Stops.{StopsBySink}
 use Rattle.hc_tops.specs.Playback.{Ran, StopsText, WritesFront}
@@ -19,6 +19,7 @@ writes_end s m text a b (inr front) =
 
 -- the last text wasn't run
 pub StopsEnd-text : (s : Setup) (m : Member) (text : List ℕ) (number : ℕ) (a b : Option (List ℕ)) (status : Status) → StopsText s m text number a b status → StopsEnd s m text number a b status
+StopsEnd-text s m text number a b (BadScript line) h = h
 StopsEnd-text s m text number a b (NotBuilt line) h = h
 StopsEnd-text s m text number a b SinkFault h = writes_end s m text a b h
 StopsEnd-text s m text number a b Memory h = writes_end s m text a b h
@@ -47,4 +48,5 @@ module _ (s : Setup) (m n : Member) (text : List ℕ) (a b c : Option (List ℕ)
   StopsEnd-closing number f f' BadWords why front = absurd why
   StopsEnd-closing number f f' SourceFault why front = absurd why
   StopsEnd-closing number f f' TurnsSpent why front = absurd why
+  StopsEnd-closing number f f' (BadScript line) why front = absurd why
   StopsEnd-closing number f f' (NotBuilt line) why front = absurd why

@@ -1,13 +1,9 @@
 -- How a turn makes the log longer, and what its record has.
-use Rattle.std.proofs.Common.{◌≡◌, ℕ, ◌+◌, ◌-◌, ◌*◌, ◌≤◌, Bool, true, false, List, [], ◌∷◌, ◌++◌, length, drop, Option, None, Some, refl, sym, ap, subst, ◌∙◌, arith, zero, suc, length-append, length-drop}
-use Rattle.std.specs.Prelude.{nat_lt, nat_le, ◌&&◌, ◌||◌, ◌==◌, if◌then◌else◌, All, IfSome}
-use Rattle.std.proofs.lemmas.Bool.{and_parts, leb-true}
+use Rattle.std.proofs.Common.{◌≡◌, ℕ, ◌+◌, ◌-◌, ◌≤◌, Bool, true, false, List, [], ◌∷◌, ◌++◌, length, drop, Option, None, Some, refl, sym, ap, subst, ◌∙◌, arith, zero, suc, length-append, length-drop}
+use Rattle.std.specs.Prelude.{nat_lt, nat_le, ◌&&◌, ◌||◌, if◌then◌else◌, All, IfSome}
 use Rattle.std.proofs.lemmas.List.Elements.{All-drop}
-use Rattle.r2_base.specs.declared.addr.Addr.{Addr}
 use Rattle.r2_base.specs.declared.datagram.Datagram.{Datagram}
 use Rattle.r2_base.specs.declared.event.Event.{Event}
-use Rattle.r2_base.specs.declared.event.Event.TheVariants.{Datagram as DatagramEvent, Tick, Quiet}
-use Rattle.r2_base.specs.declared.entry.Kind.{Kind}
 use Rattle.hc_tops.specs.declared.setup.Setup.{Setup}
 use Rattle.hc_tops.specs.declared.member.Member.{Member}
 use Rattle.hc_tops.specs.declared.member.Role.{Role}
@@ -18,41 +14,12 @@ use Rattle.hc_tops.specs.Durable.{has_room, stands_in, blank_of, FitsFields}
 use Rattle.hc_tops.specs.Pool.{waits_in}
 use Rattle.hc_tops.specs.Queues.{choose}
 use Rattle.hc_tops.specs.Member.{IsSound}
-use Rattle.hc_tops.specs.Heard.{Heard, Nothing, Whole, Time, heard, request_heard, whole_request, request_under, kind_under}
-use Rattle.hc_tops.specs.Turn.{Outcome, finished, pooled, waited, is_impatient, stood, won, ticked, row, tick_row, order_to, order_from, order_next, gone_on, ordered, ordering, counting, batched, settled, stored_of, is_stored, Reacted, reacted, turned}
-use Rattle.hc_tops.proofs.Sound.{IsShort, sound-finished, sound-row, sound-settled}
-
-request_under-body : (from : Addr) (kind : Option Kind) (high low : ℕ) (body : List ℕ) (r : Request) → request_under from kind high low body ≡ Some r → r.body ≡ body
-request_under-body from None high low body r e = cc
-request_under-body from (Some kind) high low body r e =
-    let made : Request = record { rid = record { id = 256 * high + low; client = from }; kind = kind; body = body } in
-    let same : made ≡ r = cc in
-    ap (λ (x : Request). x.body) (sym same)
-
-request_by-body : (b : Bool) (from : Addr) (kind : Option Kind) (high low : ℕ) (body : List ℕ) (r : Request)
-    → (if b then request_under from kind high low body else None) ≡ Some r → (b ≡ true) × (r.body ≡ body)
-request_by-body true from kind high low body r e = (refl, request_under-body from kind high low body r e)
-request_by-body false from kind high low body r e = cc
-
--- a request of one part has a body of 1,024 bytes at most
-pub whole_request-short : (from : Addr) (bytes : List ℕ) (r : Request) → whole_request from bytes ≡ Some r → length r.body ≤ 1024
-unfolding whole_request
-whole_request-short from (magic ∷ size ∷ policy ∷ flags ∷ high ∷ low ∷ none ∷ single ∷ body) r e =
-    let test : Bool = magic == 0x52 && size == 8 && flags == 0xC0 && none == 0 && single == 1 in
-    let found = request_by-body (test && nat_le (length body) 1024) from (kind_under policy) high low body r e in
-    let parts = and_parts test (nat_le (length body) 1024) found.0 in
-    subst (λ (x : List ℕ). length x ≤ 1024) (sym found.1) (leb-true (length body) 1024 parts.1)
-whole_request-short from _ r e = cc
-
-request_heard-short : (o : Option Request) → ((r : Request) → o ≡ Some r → length r.body ≤ 1024) → IsShort (request_heard o)
-request_heard-short None h = tt
-request_heard-short (Some r) h = let short = h r refl in omega (arith, short)
-
--- what an event says may be stored
-pub heard-short : (event : Event) → IsShort (heard event)
-heard-short (DatagramEvent d) = request_heard-short (whole_request d.from d.bytes) (λ r e. whole_request-short d.from d.bytes r e)
-heard-short Tick = tt
-heard-short Quiet = tt
+use Rattle.hc_tops.specs.declared.heard.Heard.{Heard}
+use Rattle.hc_tops.specs.declared.heard.Heard.TheVariants.{Nothing, Whole, Time}
+use Rattle.hc_tops.specs.Heard.{IsShortHeard, hear}
+use Rattle.hc_tops.specs.Turn.{Outcome, finished, pooled, waited, is_impatient, stood, won, ticked, row, tick_row, order_to, order_from, order_next, gone_on, ordered, ordering, counting, batched, settled, stored_of, is_stored, request_row, answered_again, stays, hearing, Reacted, reacted_to, reacted, turned}
+use Rattle.hc_tops.proofs.ShortHearing.{hear_short}
+use Rattle.hc_tops.proofs.Sound.{sound-finished, sound-hearing, sound-row, sound-settled}
 
 pooled_by-log : (b : Bool) (m : Member) (r : Request) → (if b then m else record m { pool = m.pool ++ r ∷ [] }).log ≡ m.log
 pooled_by-log true m r = refl
@@ -60,7 +27,7 @@ pooled_by-log false m r = refl
 
 pooled-log : (m : Member) (r : Request) → (pooled m r).log ≡ m.log
 unfolding pooled
-pooled-log m r = pooled_by-log (stands_in r.rid m.log || waits_in r.rid m.pool || nat_le 4096 (length m.pool)) m r
+pooled-log m r = pooled_by-log (waits_in r.rid m.pool || nat_le 4096 (length m.pool)) m r
 
 -- a list that is as long as another or one longer
 pub record OneMore (old new : List Stored) : Type 0 where
@@ -83,24 +50,31 @@ ticked-log : (s : Setup) (m : Member) → OneMore m.log (ticked s m).log
 unfolding ticked
 ticked-log s m = subst (λ log. OneMore log (ticked s m).log) (waited-log m) (ticked_by-log s (is_impatient s (waited m)) (waited m))
 
--- a row of a group of one leaves the log or appends one entry, keeps each entry, and sends nothing
+-- a row of a group of one leaves the log or appends one entry, and keeps each entry
 pub record Grows (m : Member) (o : Outcome) : Type 0 where
   pub log : OneMore m.log o.member.log
   pub keep : o.keep ≡ length m.log
-  pub sends : o.sends ≡ []
 
 same_log : (m n : Member) → n.log ≡ m.log → OneMore m.log n.log
 same_log m n e = let size = ap length e in record { low = omega (arith, size); high = omega (arith, size) }
 
 tick_row-grows : (s : Setup) (m : Member) (role : Role) → Grows m (tick_row s m role)
-tick_row-grows s m Leader = record { log = same_log m m refl; keep = refl; sends = refl }
-tick_row-grows s m Follower = record { log = ticked-log s m; keep = refl; sends = refl }
-tick_row-grows s m Candidate = record { log = ticked-log s m; keep = refl; sends = refl }
+tick_row-grows s m Leader = record { log = same_log m m refl; keep = refl }
+tick_row-grows s m Follower = record { log = ticked-log s m; keep = refl }
+tick_row-grows s m Candidate = record { log = ticked-log s m; keep = refl }
 
-pub row-grows : (s : Setup) (m : Member) (h : Heard) → Grows m (row s m h)
+request_by-grows : (b : Bool) (s : Setup) (m : Member) (r : Request) → Grows m (if b then answered_again s m r else stays m (pooled m r))
+request_by-grows true s m r = record { log = same_log m m refl; keep = refl }
+request_by-grows false s m r = record { log = same_log m (pooled m r) (pooled-log m r); keep = refl }
+
+request_row-grows : (s : Setup) (m : Member) (r : Request) → Grows m (request_row s m r)
+unfolding request_row
+request_row-grows s m r = request_by-grows (stands_in r.rid m.log) s m r
+
+pub row-grows : (s : Setup) (m : Member) (said : Heard) → Grows m (row s m said)
 unfolding row
-row-grows s m Nothing = record { log = same_log m m refl; keep = refl; sends = refl }
-row-grows s m (Whole r) = record { log = same_log m (pooled m r) (pooled-log m r); keep = refl; sends = refl }
+row-grows s m Nothing = record { log = same_log m m refl; keep = refl }
+row-grows s m (Whole r) = request_row-grows s m r
 row-grows s m Time = tick_row-grows s m m.role
 
 -- a log that got longer by so many entries at most
@@ -179,41 +153,43 @@ abbrev pub reaction : Setup → Member → ℕ → ℕ → Member → List Datag
 reaction s m last keep n sends =
     record { member = settled s keep n; stored = stored_of m.term m.vote last keep (settled s keep n); sends = sends }
 
--- a reaction in a group of one, from the member behind the row
-pub reacted-from : (s : Setup) (m n : Member) (event : Event) (keep : ℕ) → keep ≡ length m.log → n ≡ (row s m (heard event)).member → reacted s m event ≡ reaction s m keep keep n []
-unfolding reacted
-reacted-from s m n event keep last at =
-    let o = row s m (heard event) in
-    let grows = row-grows s m (heard event) in
+-- a reaction in a group of one, from the member behind the row and what the row sends
+pub reacted_to-from : (s : Setup) (m n : Member) (said : Heard) (keep : ℕ) (sends : List Datagram) → keep ≡ length m.log
+    → n ≡ (row s m said).member → sends ≡ (row s m said).sends → reacted_to s m said ≡ reaction s m keep keep n sends
+unfolding reacted_to
+reacted_to-from s m n said keep sends last at sent =
+    let o = row s m said in
+    let grows = row-grows s m said in
     ap (λ (k : ℕ). reaction s m (length m.log) k o.member o.sends) (grows.keep ∙ sym last)
     ∙ ap (λ (k : ℕ). reaction s m k keep o.member o.sends) (sym last)
     ∙ ap (λ (x : Member). reaction s m keep keep x o.sends) (sym at)
-    ∙ ap (λ (x : List Datagram). reaction s m keep keep n x) grows.sends
+    ∙ ap (λ (x : List Datagram). reaction s m keep keep n x) (sym sent)
+
+module _ (s : Setup) (m : Member) (said : Heard) (short : IsShortHeard said) (sound : IsSound s m) where
+  -- a reaction to what was heard leaves a sound member
+  pub sound-reacted_to : IsSound s (reacted_to s m said).member
+  unfolding reacted_to
+  sound-reacted_to = let o = row s m said in sound-settled s o.keep o.member (sound-row s m said short sound)
+
+  -- its record can be spelled
+  pub reacted_to-fits : IfSome (reacted_to s m said).stored FitsFields
+  unfolding reacted_to stored_of
+  reacted_to-fits =
+      let o = row s m said in
+      let grows = row-grows s m said in
+      let more = settled-up_to s o.keep o.member in
+      let end = sound-settled s o.keep o.member (sound-row s m said short sound) in
+      stored_by-fits (is_stored m.term m.vote (length m.log) o.keep (settled s o.keep o.member)) o.keep (settled s o.keep o.member)
+      (omega (arith, more.high, grows.log.low, grows.log.high, grows.keep)) end.bodies
 
 module _ (s : Setup) (m : Member) (event : Event) (sound : IsSound s m) where
   -- a reaction leaves a sound member
   pub sound-reacted : IsSound s (reacted s m event).member
   unfolding reacted
-  sound-reacted = let o = row s m (heard event) in sound-settled s o.keep o.member (sound-row s m (heard event) (heard-short event) sound)
-
-  -- the record of a reaction can be spelled
-  pub reacted-fits : IfSome (reacted s m event).stored FitsFields
-  unfolding reacted stored_of
-  reacted-fits =
-      let o = row s m (heard event) in
-      let grows = row-grows s m (heard event) in
-      let more = settled-up_to s o.keep o.member in
-      let end = sound-settled s o.keep o.member (sound-row s m (heard event) (heard-short event) sound) in
-      stored_by-fits (is_stored m.term m.vote (length m.log) o.keep (settled s o.keep o.member)) o.keep (settled s o.keep o.member)
-      (omega (arith, more.high, grows.log.low, grows.log.high, grows.keep)) end.bodies
+  sound-reacted = sound-reacted_to s (hearing m event) (hear m.unfinished event).said (hear_short m.unfinished event sound.unfinished).0 (sound-hearing s m event sound)
 
 module _ (s : Setup) (m : Member) (event : Event) (sound : IsSound s m) where
   -- a turn leaves a sound member
   pub sound-turned : IsSound s (turned s m event).member
   unfolding turned
   sound-turned = sound-reacted s (finished s m).member event (sound-finished s m sound)
-
-  -- the record of a turn can be spelled
-  pub turned-fits : IfSome (turned s m event).stored FitsFields
-  unfolding turned
-  turned-fits = reacted-fits s (finished s m).member event (sound-finished s m sound)

@@ -1,5 +1,8 @@
 pub mod Counts
 pub mod Maps
+pub mod Values
+pub mod Answering
+pub mod ShortHearing
 pub mod Ordering
 pub mod Applying
 pub mod Sound
@@ -13,3 +16,4 @@ pub mod Runs
 pub mod Advance
 pub mod Endings
 pub mod Replays
+pub mod Scripts

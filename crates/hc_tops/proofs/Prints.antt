@@ -10,7 +10,7 @@ use Rattle.r2_link.specs.Streams.{AppendsFront}
 use Rattle.r2_link.proofs.Faults.{then-Rose}
 use Rattle.r2_link.proofs.Streams.{Appends-nil, Appends-trans, AppendsFront-longer, AppendsFront-then}
 use Rattle.hc_tops.specs.declared.status.Status.{Status}
-use Rattle.hc_tops.specs.declared.status.Status.TheVariants.{Done, BadWords, Memory, SourceFault, SinkFault, TurnsSpent, NotBuilt}
+use Rattle.hc_tops.specs.declared.status.Status.TheVariants.{Done, BadWords, BadScript, Memory, SourceFault, SinkFault, TurnsSpent, NotBuilt}
 use Rattle.hc_tops.specs.Printed.{cause_text, error_text, out_text}
 use Rattle.hc_tops.specs.Stops.{StopsBySink}
 
@@ -43,6 +43,7 @@ error_text-line Memory other = refl
 error_text-line SourceFault other = refl
 error_text-line SinkFault other = refl
 error_text-line TurnsSpent other = refl
+error_text-line (BadScript line) other = refl
 error_text-line (NotBuilt line) other = refl
 
 pub done_says_nothing : (a : Option (List ℕ)) (status : Status) → status ≡ Done → Appends a a (error_text status)
@@ -61,6 +62,7 @@ then_stops a b c Done on never = never
 then_stops a b c BadWords on never = never
 then_stops a b c SourceFault on never = never
 then_stops a b c TurnsSpent on never = never
+then_stops a b c (BadScript line) on never = never
 then_stops a b c (NotBuilt line) on never = never
 
 one_more : (sends : List Datagram) (i : ℕ) (d : Datagram) → i < length sends → d ≡ get_or sends i d → flat_map out_text (take (i + 1) sends) ≡ flat_map out_text (take i sends) ++ out_text d

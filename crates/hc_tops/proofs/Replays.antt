@@ -1,5 +1,5 @@
 -- From the pieces of a script to the whole of its replay.
-use Rattle.std.proofs.Common.{◌≡◌, ℕ, ◌+◌, List, [], ◌∷◌, ◌++◌, Option, sym, ap, subst, ◌∙◌, arith, append-nil, append_assoc, inl, inr}
+use Rattle.std.proofs.Common.{◌≡◌, ℕ, ◌+◌, List, [], ◌∷◌, ◌++◌, Option, Some, refl, sym, ap, subst, ◌∙◌, arith, append-nil, append_assoc, inl, inr}
 use Rattle.std.specs.Io.KnownBytes.{Appends, IsAtEnd}
 use Rattle.r2_link.specs.Streams.{AppendsFront}
 use Rattle.r2_link.proofs.Streams.{Appends-trans, Appends-nil, Appends-kept, AppendsFront-whole, AppendsFront-kept, AppendsFront-then, AppendsFront-nothing, Consumes-nil, Keeps-refl}
@@ -7,12 +7,14 @@ use Rattle.hc_tops.specs.declared.line.Line.{Line}
 use Rattle.hc_tops.specs.declared.setup.Setup.{Setup}
 use Rattle.hc_tops.specs.declared.member.Member.{Member}
 use Rattle.hc_tops.specs.declared.status.Status.{Status}
-use Rattle.hc_tops.specs.declared.status.Status.TheVariants.{Done, BadWords, Memory, SourceFault, SinkFault, TurnsSpent, NotBuilt}
+use Rattle.hc_tops.specs.declared.status.Status.TheVariants.{Done, BadWords, BadScript, Memory, SourceFault, SinkFault, TurnsSpent, NotBuilt}
 use Rattle.hc_tops.specs.Member.{begin}
-use Rattle.hc_tops.specs.Script.{AreLines, IsRefused, fed, after, turns_text, last_text, script_text}
-use Rattle.hc_tops.specs.Playback.{Advanced, EndsInside, IsRefusedAs, StopsPiece}
+use Rattle.hc_tops.specs.Script.{AreLines, Refusal, Outside, Unbuilt, IsRefused, fed, after, turns_text, last_text, script_text}
+use Rattle.hc_tops.specs.Playback.{Advanced, EndsInside, IsRefusedAs, Sticks, StopsPiece}
 use Rattle.hc_tops.specs.Closing.{Closes, StopsEnd, WritesEnd, ending_text}
-use Rattle.hc_tops.specs.Replay.{IsWhole, IsPartial, IsStuck, IsFront, IsLineEnd, WritesPart, Replays, IsReplay}
+use Rattle.hc_tops.specs.Grammar.{IsScript}
+use Rattle.hc_tops.proofs.Scripts.{no_stranger}
+use Rattle.hc_tops.specs.Replay.{IsComplete, IsWhole, IsPartial, IsStuck, IsFront, IsLineEnd, WritesPart, Replays, IsReplay}
 use Rattle.hc_tops.proofs.Advance.{AreLines-append, AreLines-none, turns_text-append, after-append, fed-none}
 
 -- whole lines, and the beginning of another
@@ -27,11 +29,12 @@ line_end : (left : Option (List ℕ)) (bad rest : List ℕ) → EndsInside bad r
 line_end left bad [] h = inr h
 line_end left bad (b ∷ rest) h = h
 
--- what stopped a piece behind what was taken before
-pub stopped-of : (s : Setup) (left : Option (List ℕ)) (a b : Option (List ℕ)) (taken : List ℕ) (status : Status) → StopsPiece s begin [] 0 a b taken status → Replays s left taken a b status
-stopped-of s left a b taken (NotBuilt line) h =
+-- a line that isn't run, behind what was taken before
+stuck-of : (s : Setup) (why : Refusal) (left : Option (List ℕ)) (a b : Option (List ℕ)) (taken : List ℕ) (line : ℕ) → Sticks s why begin [] 0 line a b taken
+    → (lines : List Line) × IsStuck s why left taken lines line × Appends a b (turns_text s begin lines)
+stuck-of s why left a b taken line h =
     let number = h.number in
-    let is : IsStuck s left taken h.lines line =
+    let is : IsStuck s why left taken h.lines line =
     record {
       texts = h.texts;
       bad = h.bad;
@@ -45,6 +48,11 @@ stopped-of s left a b taken (NotBuilt line) h =
       counted = omega (arith, number);
     } in
     (h.lines, is, h.gave)
+
+-- what stopped a piece behind what was taken before
+pub stopped-of : (s : Setup) (left : Option (List ℕ)) (a b : Option (List ℕ)) (taken : List ℕ) (status : Status) → StopsPiece s begin [] 0 a b taken status → Replays s left taken a b status
+stopped-of s left a b taken (BadScript line) h = stuck-of s Outside left a b taken line h
+stopped-of s left a b taken (NotBuilt line) h = stuck-of s Unbuilt left a b taken line h
 stopped-of s left a b taken SinkFault h =
     let is : IsFront s taken h.lines = record { texts = h.texts; rest = h.rest; known = h.known; split = h.split } in inl (h.lines, is, h.gave)
 stopped-of s left a b taken Memory h =
@@ -92,13 +100,14 @@ module _ (s : Setup) (m : Member) (rest : List ℕ) (count : ℕ) (left a b c : 
       let ran = gone.ran in
       inr (ran.lines ++ front.0, whole_of front.0 front.1, subst (AppendsFront a c) (whole_text front.0) (AppendsFront-then a b c _ _ front.2 ran.gave))
 
-  stuck_of : (line : ℕ) → IsRefusedAs m rest (count + 1) line b c → Replays s left taken a c (NotBuilt line)
-  stuck_of line h =
+  stuck_of : (why : Refusal) (line : ℕ) → IsRefusedAs s why m rest (count + 1) line b c
+      → (lines : List Line) × IsStuck s why left taken lines line × Appends a c (turns_text s begin lines)
+  stuck_of why line h =
       let ran = gone.ran in
       let line_is = h.counted in
       let number = gone.number in
       let unfinished = gone.unfinished in
-      let is : IsStuck s left taken ran.lines line =
+      let is : IsStuck s why left taken ran.lines line =
       record {
         texts = gone.texts;
         bad = rest;
@@ -107,7 +116,7 @@ module _ (s : Setup) (m : Member) (rest : List ℕ) (count : ℕ) (left a b c : 
         split = gone.split ∙ sym (append-nil (fed gone.texts ++ rest));
         one_line = unfinished.one_line;
         nonempty = h.nonempty;
-        refused = subst (λ (x : Member). IsRefused x rest) ran.at h.refused;
+        refused = subst (λ (x : Member). IsRefused s why x rest) ran.at h.refused;
         ends = inl ended;
         counted = omega (arith, line_is, number);
       } in
@@ -115,7 +124,8 @@ module _ (s : Setup) (m : Member) (rest : List ℕ) (count : ℕ) (left a b c : 
 
   -- the end of the script wasn't run whole
   pub unended-of : (status : Status) → StopsEnd s m rest (count + 1) b c status → Replays s left taken a c status
-  unended-of (NotBuilt line) h = stuck_of line h
+  unended-of (BadScript line) h = stuck_of Outside line h
+  unended-of (NotBuilt line) h = stuck_of Unbuilt line h
   unended-of SinkFault h = part_of h
   unended-of Memory h = part_of h
   unended-of Done h = absurd h
@@ -128,3 +138,18 @@ pub nothing-of : (s : Setup) (left a : Option (List ℕ)) → IsReplay s left le
 nothing-of s left a =
     let is : IsFront s [] [] = record { texts = []; rest = []; known = AreLines-none s begin; split = sym (append-nil (fed []) ∙ fed-none) } in
     record { taken = []; took = Consumes-nil left; did = inl ([], is, AppendsFront-nothing a a (turns_text s begin []) (Keeps-refl a)) }
+
+-- a script in its grammar is run to its end, unless something failed or a line isn't built
+pub complete-of : (s : Setup) (script : List ℕ) (left' written written' : Option (List ℕ)) (status : Status)
+    → IsScript script → IsReplay s (Some script) left' written written' status → (status ≡ SourceFault → ⊥) → (status ≡ SinkFault → ⊥) → IsComplete status
+complete-of s script left' w w' Done is ran source sink = tt
+complete-of s script left' w w' Memory is ran source sink = tt
+complete-of s script left' w w' TurnsSpent is ran source sink = tt
+complete-of s script left' w w' (NotBuilt number) is ran source sink = tt
+complete-of s script left' w w' (BadScript number) is ran source sink =
+    let stuck = ran.did.1 in
+    let known = stuck.known in
+    no_stranger script ran.taken left' stuck.texts stuck.bad stuck.rest is ran.took known.each stuck.split stuck.one_line stuck.nonempty stuck.ends stuck.refused
+complete-of s script left' w w' BadWords is ran source sink = ran.did
+complete-of s script left' w w' SourceFault is ran source sink = source refl
+complete-of s script left' w w' SinkFault is ran source sink = sink refl

@@ -3,7 +3,7 @@ use Rattle.std.proofs.Common.{◌≡◌, ℕ, ◌+◌, ◌-◌, ◌<◌, ◌≤�
 use Rattle.std.specs.Prelude.{nat_lt, nat_le, ◌&&◌, ◌||◌, ◌==◌, if◌then◌else◌, All, slice_index_or, filter}
 use Rattle.std.proofs.lemmas.Bool.{and_parts, ltb-true}
 use Rattle.std.proofs.lemmas.List.{length-set, length-replicate}
-use Rattle.std.proofs.lemmas.List.Elements.{All-push, All-drop, All-head, All-tail}
+use Rattle.std.proofs.lemmas.List.Elements.{All-push, All-drop, All-take, All-head, All-tail}
 use Rattle.hc_tops.specs.declared.setup.Setup.{Setup}
 use Rattle.hc_tops.specs.declared.member.Member.{Member}
 use Rattle.hc_tops.specs.declared.member.Role.{Role}
@@ -13,12 +13,25 @@ use Rattle.hc_tops.specs.declared.record.Stored.{Stored}
 use Rattle.hc_tops.specs.Durable.{has_room, stands_in, blank_of}
 use Rattle.hc_tops.specs.Pool.{waits_in}
 use Rattle.hc_tops.specs.Queues.{choose}
-use Rattle.hc_tops.specs.Member.{begin, IsSound}
-use Rattle.hc_tops.specs.Heard.{Heard, Nothing, Whole, Time}
-use Rattle.hc_tops.specs.Turn.{batched, due, batch_of, applied_all, reported, finished, pooled, waited, is_impatient, patience, stood, won, ticked, row, tick_row, order_to, order_from, order_next, gone_on, ordered, ordering, counting, settled}
+use Rattle.std.specs.FinMap as finite
+use Rattle.std.specs.Ordering.{nat_cmp}
+use Rattle.std.specs.Cmp.Lexicographic.{slice_cmp}
+use Rattle.hc_tops.specs.Member.{AreShort, begin, IsSound}
+use Rattle.hc_tops.specs.declared.heard.Heard.{Heard}
+use Rattle.hc_tops.specs.declared.heard.Heard.TheVariants.{Nothing, Whole, Time}
+use Rattle.hc_tops.specs.Heard.{IsShortHeard}
+use Rattle.hc_tops.specs.Turn.{batched, due, batch_of, applied_all, reported, finished, pooled, request_row, answered_again, stays, hearing, waited, is_impatient, patience, stood, won, ticked, row, tick_row, order_to, order_from, order_next, gone_on, ordered, ordering, counting, settled}
 use Rattle.std.proofs.Common.{length-take}
 use Rattle.hc_tops.proofs.Applying.{Leaves, applied_all-leaves}
+use Rattle.hc_tops.proofs.Answering.{CanAnswer, applied_all-answers}
+use Rattle.hc_tops.proofs.ShortHearing.{hear_short}
 use Rattle.hc_tops.proofs.Ordering.{has_room-short}
+use Rattle.r2_frag.specs.Sizes.{IsShort}
+use Rattle.r2_base.specs.declared.event.Event.{Event}
+
+-- an empty map has no values
+no_values : AreShort finite.empty
+no_values = λ key value e. let none = finite.get-empty {K = List ℕ} {X = List ℕ} (slice_cmp nat_cmp) key in cc
 
 -- a member that has nothing is sound
 pub sound-begin : (s : Setup) → IsSound s begin
@@ -31,13 +44,11 @@ sound-begin s =
       term_fits = omega arith;
       bodies = λ k d h. absurd (omega (arith, h));
       pool_bodies = λ k d h. absurd (omega (arith, h));
+      unfinished = λ k d h. absurd (omega (arith, h));
+      values = no_values;
+      replies = λ k d h. absurd (omega (arith, h));
       queued = λ leads. cc;
     }
-
--- a request with a body that may be stored
-abbrev pub IsShort : Heard → Type 0
-IsShort (Whole r) = length r.body ≤ 61440
-IsShort _ = Unit {0}
 
 module _ (s : Setup) where
   pub sound-batched : (m : Member) → IsSound s m → IsSound s (batched m)
@@ -50,6 +61,9 @@ module _ (s : Setup) where
         term_fits = h.term_fits;
         bodies = h.bodies;
         pool_bodies = h.pool_bodies;
+        unfinished = h.unfinished;
+        values = h.values;
+        replies = h.replies;
         queued = h.queued;
       }
 
@@ -71,6 +85,9 @@ module _ (s : Setup) where
         term_fits = h.term_fits;
         bodies = h.bodies;
         pool_bodies = h.pool_bodies;
+        unfinished = h.unfinished;
+        values = h.values;
+        replies = h.replies;
         queued = λ leads. length-set m.queues s.me (filter (λ index. nat_lt m.applied index) (slice_index_or m.queues s.me [])) ∙ h.queued leads;
       }
   sound-reported m Follower h = h
@@ -90,6 +107,9 @@ module _ (s : Setup) where
         term_fits = h.term_fits;
         bodies = h.bodies;
         pool_bodies = All-push (λ (x : Request). length x.body ≤ 61440) m.pool r h.pool_bodies short;
+        unfinished = h.unfinished;
+        values = h.values;
+        replies = h.replies;
         queued = h.queued;
       }
 
@@ -99,7 +119,33 @@ module _ (s : Setup) where
 
   pub sound-pooled : (m : Member) (r : Request) → length r.body ≤ 61440 → IsSound s m → IsSound s (pooled m r)
   unfolding pooled put_in
-  sound-pooled m r short h = sound-pooled_by (stands_in r.rid m.log || waits_in r.rid m.pool || nat_le 4096 (length m.pool)) m r short h
+  sound-pooled m r short h = sound-pooled_by (waits_in r.rid m.pool || nat_le 4096 (length m.pool)) m r short h
+
+  sound-request_by : (b : Bool) (m : Member) (r : Request) → length r.body ≤ 61440 → IsSound s m → IsSound s (if b then answered_again s m r else stays m (pooled m r)).member
+  sound-request_by true m r short h = h
+  sound-request_by false m r short h = sound-pooled m r short h
+
+  sound-request : (m : Member) (r : Request) → length r.body ≤ 61440 → IsSound s m → IsSound s (request_row s m r).member
+  unfolding request_row
+  sound-request m r short h = sound-request_by (stands_in r.rid m.log) m r short h
+
+  -- a member that heard an event
+  pub sound-hearing : (m : Member) (event : Event) → IsSound s m → IsSound s (hearing m event)
+  unfolding hearing
+  sound-hearing m event h =
+      let heard = hear_short m.unfinished event h.unfinished in
+      record {
+        batch = h.batch;
+        committed = h.committed;
+        log_fits = h.log_fits;
+        term_fits = h.term_fits;
+        bodies = h.bodies;
+        pool_bodies = h.pool_bodies;
+        unfinished = heard.1;
+        values = h.values;
+        replies = h.replies;
+        queued = h.queued;
+      }
 
   relieved : (b : Bool) (pool : List Request) → All (λ (r : Request). length r.body ≤ 61440) pool → All (λ (r : Request). length r.body ≤ 61440) (if b then drop 1 pool else pool)
   relieved true pool h = All-drop (λ (r : Request). length r.body ≤ 61440) 1 pool h
@@ -115,6 +161,9 @@ module _ (s : Setup) where
         term_fits = h.term_fits;
         bodies = h.bodies;
         pool_bodies = relieved (nat_le 4096 (length m.pool)) m.pool h.pool_bodies;
+        unfinished = h.unfinished;
+        values = h.values;
+        replies = h.replies;
         queued = h.queued;
       }
 
@@ -128,6 +177,9 @@ module _ (s : Setup) where
         term_fits = omega arith;
         bodies = h.bodies;
         pool_bodies = h.pool_bodies;
+        unfinished = h.unfinished;
+        values = h.values;
+        replies = h.replies;
         queued = λ leads. cc;
       }
 
@@ -142,6 +194,9 @@ module _ (s : Setup) where
         term_fits = h.term_fits;
         bodies = All-push (λ (x : Stored). length x.body ≤ 61440) m.log (blank_of m.term) h.bodies (omega arith);
         pool_bodies = h.pool_bodies;
+        unfinished = h.unfinished;
+        values = h.values;
+        replies = h.replies;
         queued = λ leads. length-replicate (length s.members) [];
       }
 
@@ -179,6 +234,9 @@ module _ (s : Setup) where
         term_fits = h.term_fits;
         bodies = All-push (λ (x : Stored). length x.body ≤ 61440) m.log ordered h.bodies (All-head (λ (x : Request). length x.body ≤ 61440) r rest pool_bodies);
         pool_bodies = All-tail (λ (x : Request). length x.body ≤ 61440) r rest pool_bodies;
+        unfinished = h.unfinished;
+        values = h.values;
+        replies = h.replies;
         queued = λ leads. length-set m.queues replier (slice_index_or m.queues replier [] ++ (length m.log + 1) ∷ []) ∙ h.queued leads;
       }
 
@@ -222,6 +280,9 @@ module _ (s : Setup) where
         term_fits = h.term_fits;
         bodies = h.bodies;
         pool_bodies = h.pool_bodies;
+        unfinished = h.unfinished;
+        values = h.values;
+        replies = h.replies;
         queued = h.queued;
       }
 
@@ -241,8 +302,8 @@ module _ (s : Setup) where
       sound-batched (counting all all.role) (sound-counting all all.role (sound-ordering keep m m.role h))
 
   -- the entries of a batch can be applied and counted
-  sound-applied : (m n : Member) → IsSound s m → Leaves m n m.pending → IsSound s (record n { pending = 0 })
-  sound-applied m n h left =
+  sound-applied : (m n : Member) → IsSound s m → Leaves m n m.pending → CanAnswer n → IsSound s (record n { pending = 0 })
+  sound-applied m n h left can =
       let size = ap length left.log in
       record {
         batch = omega (arith, h.batch, left.applied, left.commit);
@@ -251,17 +312,25 @@ module _ (s : Setup) where
         term_fits = omega (arith, h.term_fits, left.term);
         bodies = subst (λ log. All (λ (x : Stored). length x.body ≤ 61440) log) (sym left.log) h.bodies;
         pool_bodies = subst (λ pool. All (λ (x : Request). length x.body ≤ 61440) pool) (sym left.pool) h.pool_bodies;
+        unfinished = subst (All IsShort) (sym left.unfinished) h.unfinished;
+        values = can.values;
+        replies = can.replies;
         queued = λ leads. ap length left.queues ∙ h.queued (sym left.role ∙ leads);
       }
 
   pub length-batch_of : (m : Member) → m.applied + m.pending ≤ length m.log → length (batch_of m) ≡ m.pending
   length-batch_of m within = simp (length-take, length-drop) (omega arith)
 
+  batch-short : (m : Member) → IsSound s m → All (λ (x : Stored). length x.body ≤ 61440) (batch_of m)
+  batch-short m h =
+      All-take (λ (x : Stored). length x.body ≤ 61440) m.pending (drop m.applied m.log) (All-drop (λ (x : Stored). length x.body ≤ 61440) m.applied m.log h.bodies)
+
   -- a batch that was applied leaves a sound member, once it is empty
   pub sound-batch : (m : Member) → IsSound s m → IsSound s (record (applied_all s m (batch_of m)).member { pending = 0 })
   sound-batch m h =
       sound-applied m (applied_all s m (batch_of m)).member h
       (subst (Leaves m (applied_all s m (batch_of m)).member) (length-batch_of m (omega (arith, h.batch, h.committed))) (applied_all-leaves s m (batch_of m)))
+      (applied_all-answers s m (batch_of m) (batch-short m h) (record { values = h.values; replies = h.replies }))
 
   pub sound-finished : (m : Member) → IsSound s m → IsSound s (finished s m).member
   unfolding finished
@@ -274,8 +343,8 @@ module _ (s : Setup) where
   sound-tick_row m Follower h = sound-ticked m h
   sound-tick_row m Candidate h = sound-ticked m h
 
-  pub sound-row : (m : Member) (h : Heard) → IsShort h → IsSound s m → IsSound s (row s m h).member
+  pub sound-row : (m : Member) (h : Heard) → IsShortHeard h → IsSound s m → IsSound s (row s m h).member
   unfolding row
   sound-row m Nothing short h = h
-  sound-row m (Whole r) short h = sound-pooled m r short h
+  sound-row m (Whole r) short h = sound-request m r short h
   sound-row m Time short h = sound-tick_row m m.role h

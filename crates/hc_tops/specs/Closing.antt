@@ -6,8 +6,8 @@ use Rattle.hc_tops.specs.declared.line.Line.{Line}
 use Rattle.hc_tops.specs.declared.setup.Setup.{Setup}
 use Rattle.hc_tops.specs.declared.member.Member.{Member}
 use Rattle.hc_tops.specs.declared.status.Status.{Status}
-use Rattle.hc_tops.specs.declared.status.Status.TheVariants.{Done, BadWords, Memory, SourceFault, SinkFault, TurnsSpent, NotBuilt}
-use Rattle.hc_tops.specs.Script.{AreLines, after, turns_text, last_text}
+use Rattle.hc_tops.specs.declared.status.Status.TheVariants.{Done, BadWords, BadScript, Memory, SourceFault, SinkFault, TurnsSpent, NotBuilt}
+use Rattle.hc_tops.specs.Script.{AreLines, Outside, Unbuilt, after, turns_text, last_text}
 use Rattle.hc_tops.specs.Playback.{IsRefusedAs}
 
 -- what the last text prints as a line, and what the member prints behind it
@@ -27,7 +27,8 @@ WritesEnd s m text old new =
 
 -- why the end wasn't run whole
 abbrev pub StopsEnd : Setup → Member → List ℕ → ℕ → Option (List ℕ) → Option (List ℕ) → Status → Type 0
-StopsEnd s m text number old new (NotBuilt line) = IsRefusedAs m text number line old new
+StopsEnd s m text number old new (BadScript line) = IsRefusedAs s Outside m text number line old new
+StopsEnd s m text number old new (NotBuilt line) = IsRefusedAs s Unbuilt m text number line old new
 StopsEnd s m text number old new SinkFault = WritesEnd s m text old new
 StopsEnd s m text number old new Memory = WritesEnd s m text old new
 StopsEnd s m text number old new Done = ⊥

@@ -3,6 +3,7 @@ pub mod Durable
 pub mod Command
 pub mod Queues
 pub mod Pool
+pub mod Replies
 pub mod Member
 pub mod Printed
 pub mod Words
@@ -16,3 +17,4 @@ pub mod Senders
 pub mod Playback
 pub mod Closing
 pub mod Run
+pub mod Grammar

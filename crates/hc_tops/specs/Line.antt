@@ -4,7 +4,7 @@ use Rattle.hex.specs.Hex.{decode_of}
 use Rattle.r2_base.specs.declared.addr.Addr.{Addr}
 use Rattle.r2_base.specs.Addr.{IsAddrText}
 use Rattle.hc_tops.specs.declared.line.Line.{Line}
-use Rattle.hc_tops.specs.declared.line.Line.TheVariants.{Tick, Quiet, In}
+use Rattle.hc_tops.specs.declared.line.Line.TheVariants.{Tick, Quiet, In, Restart}
 
 -- the line of a datagram that comes in: whence, and its bytes in hexadecimal of either case
 pub record IsIncoming (text : List ℕ) (from : Addr) (bytes : List ℕ) : Type 0 where
@@ -19,3 +19,4 @@ abbrev pub IsLine : List ℕ → Line → Type 0
 IsLine text Tick = text ≡ codes "tick"
 IsLine text Quiet = text ≡ codes "quiet"
 IsLine text (In from bytes) = IsIncoming text from bytes
+IsLine text Restart = text ≡ codes "restart"

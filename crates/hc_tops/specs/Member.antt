@@ -1,10 +1,13 @@
 -- A member of a group as it begins, and what holds of every member that can be reached.
-use Rattle.std.specs.Prelude.{◌≡◌, ◌+◌, ◌≤◌, ◌^◌, [], length, None, All, slice_index_or}
+use Rattle.std.specs.Prelude.{◌≡◌, ◌+◌, ◌≤◌, ◌^◌, ℕ, List, [], length, None, Some, All, slice_index_or}
 use Rattle.std.specs.FinMap as map
 use Rattle.r2_base.specs.declared.addr.Addr.{Addr}
 use Rattle.hc_tops.specs.declared.setup.Setup.{Setup}
 use Rattle.hc_tops.specs.declared.member.Member.{Member}
 use Rattle.hc_tops.specs.declared.member.Role.TheVariants.{Follower, Leader}
+use Rattle.r2_frag.specs.Sizes.{IsShort}
+use Rattle.hc_tops.specs.Service.{Contents}
+use Rattle.hc_tops.specs.Replies.{IsAnswer}
 
 -- a member that has nothing yet
 unfoldable pub begin : Member
@@ -17,16 +20,22 @@ begin =
       commit = 0;
       applied = 0;
       pending = 0;
+      unfinished = [];
       pool = [];
       term_start = 0;
       queues = [];
       store = map.empty;
+      kept = [];
       silent = 0;
     }
 
 -- the address of the replica itself
 abbrev pub own_address : Setup → Addr
 own_address s = slice_index_or s.members s.me (record { ip = 0; port = 0 })
+
+-- each value is short enough for a reply
+abbrev pub AreShort : Contents → Type 0
+AreShort contents = (key value : List ℕ) → map.get contents key ≡ Some value → length value ≤ 61440
 
 -- what holds of every member that can be reached
 pub record IsSound (s : Setup) (m : Member) : Type 0 where
@@ -36,4 +45,7 @@ pub record IsSound (s : Setup) (m : Member) : Type 0 where
   pub term_fits : m.term ≤ 2 ^ 62
   pub bodies : All (λ stored. length stored.body ≤ 61440) m.log
   pub pool_bodies : All (λ r. length r.body ≤ 61440) m.pool
+  pub unfinished : All IsShort m.unfinished
+  pub values : AreShort m.store
+  pub replies : All IsAnswer m.kept
   pub queued : m.role ≡ Leader → length m.queues ≡ length s.members

@@ -7,7 +7,7 @@ use Rattle.r2_base.specs.declared.datagram.Datagram.{Datagram}
 use Rattle.r2_base.specs.Addr.{addr_text}
 use Rattle.hc_tops.specs.declared.record.Record.{Record}
 use Rattle.hc_tops.specs.declared.status.Status.{Status}
-use Rattle.hc_tops.specs.declared.status.Status.TheVariants.{Done, BadWords, Memory, SourceFault, SinkFault, TurnsSpent, NotBuilt}
+use Rattle.hc_tops.specs.declared.status.Status.TheVariants.{Done, BadWords, BadScript, Memory, SourceFault, SinkFault, TurnsSpent, NotBuilt}
 use Rattle.hc_tops.specs.Durable.{record_bytes}
 
 -- the line of a record's bytes
@@ -31,6 +31,7 @@ turn_text stored sends = stored_text stored ++ flat_map out_text sends
 abbrev pub code_of : Status → ℕ
 code_of Done = 0
 code_of BadWords = 64
+code_of (BadScript line) = 65
 code_of Memory = 70
 code_of SourceFault = 71
 code_of SinkFault = 72
@@ -41,6 +42,7 @@ code_of (NotBuilt line) = 79
 abbrev pub cause_text : Status → List ℕ
 cause_text Done = []
 cause_text BadWords = codes "words not understood"
+cause_text (BadScript line) = codes "line " ++ decimal line ++ codes ": not a script line"
 cause_text Memory = codes "out of memory"
 cause_text SourceFault = codes "the source failed"
 cause_text SinkFault = codes "the sink failed"

@@ -5,9 +5,9 @@ use Rattle.r2_link.specs.Streams.{AppendsFront}
 use Rattle.hc_tops.specs.declared.line.Line.{Line}
 use Rattle.hc_tops.specs.declared.setup.Setup.{Setup}
 use Rattle.hc_tops.specs.declared.status.Status.{Status}
-use Rattle.hc_tops.specs.declared.status.Status.TheVariants.{Done, BadWords, Memory, SourceFault, SinkFault, TurnsSpent, NotBuilt}
+use Rattle.hc_tops.specs.declared.status.Status.TheVariants.{Done, BadWords, BadScript, Memory, SourceFault, SinkFault, TurnsSpent, NotBuilt}
 use Rattle.hc_tops.specs.Member.{begin}
-use Rattle.hc_tops.specs.Script.{IsText, AreLines, IsRefused, fed, after, turns_text, script_text}
+use Rattle.hc_tops.specs.Script.{IsText, AreLines, Refusal, Outside, Unbuilt, IsRefused, fed, after, turns_text, script_text}
 
 -- a group of one member, without an aggregator
 pub record IsAlone (s : Setup) : Type 0 where
@@ -40,8 +40,8 @@ abbrev pub IsLineEnd : Option (List ℕ) → List ℕ → List ℕ → Type 0
 IsLineEnd left line (b ∷ rest) = (b ≡ 10) ⊎ (8192 < length line)
 IsLineEnd left line [] = IsAtEnd left ⊎ (8192 < length line)
 
--- behind these lines stands one that can't be run, the one with this number
-pub record IsStuck (s : Setup) (left : Option (List ℕ)) (taken : List ℕ) (lines : List Line) (number : ℕ) : Type 0 where
+-- behind these lines stands one that isn't run, the one with this number
+pub record IsStuck (s : Setup) (why : Refusal) (left : Option (List ℕ)) (taken : List ℕ) (lines : List Line) (number : ℕ) : Type 0 where
   pub texts : List (List ℕ)
   pub bad : List ℕ
   pub rest : List ℕ
@@ -49,7 +49,7 @@ pub record IsStuck (s : Setup) (left : Option (List ℕ)) (taken : List ℕ) (li
   pub split : taken ≡ fed texts ++ bad ++ rest
   pub one_line : All (λ b. b ≢ 10) bad
   pub nonempty : bad ≢ []
-  pub refused : IsRefused (after s begin lines) bad
+  pub refused : IsRefused s why (after s begin lines) bad
   pub ends : IsLineEnd left bad rest
   pub counted : number ≡ length texts + 1
 
@@ -60,7 +60,7 @@ pub record IsFront (s : Setup) (taken : List ℕ) (lines : List Line) : Type 0 w
   pub known : AreLines s begin texts lines
   pub split : taken ≡ fed texts ++ rest
 
--- a part of what these lines print was written, or of what the whole script prints where its end was reached
+-- a front of what these lines print was written, or of what the whole script prints where its end was reached
 abbrev pub WritesPart : Setup → Option (List ℕ) → List ℕ → Option (List ℕ) → Option (List ℕ) → Type 0
 WritesPart s left taken old new =
     ((lines : List Line) × IsFront s taken lines × AppendsFront old new (turns_text s begin lines))
@@ -69,8 +69,10 @@ WritesPart s left taken old new =
 -- what was taken and what was written, by the status: what the source has left, what was taken, what the sink had and has
 abbrev pub Replays : Setup → Option (List ℕ) → List ℕ → Option (List ℕ) → Option (List ℕ) → Status → Type 0
 Replays s left taken old new Done = (lines : List Line) × IsWhole s left taken lines × Appends old new (script_text s lines)
+Replays s left taken old new (BadScript number) =
+    (lines : List Line) × IsStuck s Outside left taken lines number × Appends old new (turns_text s begin lines)
 Replays s left taken old new (NotBuilt number) =
-    (lines : List Line) × IsStuck s left taken lines number × Appends old new (turns_text s begin lines)
+    (lines : List Line) × IsStuck s Unbuilt left taken lines number × Appends old new (turns_text s begin lines)
 Replays s left taken old new SourceFault = (lines : List Line) × IsPartial s taken lines × Appends old new (turns_text s begin lines)
 Replays s left taken old new TurnsSpent =
     (lines : List Line) × IsPartial s taken lines × Appends old new (turns_text s begin lines) × (length taken ≡ 2 ^ 56)
@@ -83,3 +85,14 @@ pub record IsReplay (s : Setup) (left left' written written' : Option (List ℕ)
   pub taken : List ℕ
   pub took : Consumes left left' taken
   pub did : Replays s left' taken written written' status
+
+-- how a replay ends of a script in its grammar, where neither source nor sink failed
+abbrev pub IsComplete : Status → Type 0
+IsComplete Done = Unit {0}
+IsComplete Memory = Unit {0}
+IsComplete TurnsSpent = Unit {0}
+IsComplete (NotBuilt number) = Unit {0}
+IsComplete (BadScript number) = ⊥
+IsComplete BadWords = ⊥
+IsComplete SourceFault = ⊥
+IsComplete SinkFault = ⊥

@@ -1,16 +1,16 @@
 -- A script as a list of lines, and what its replay prints.
-use Rattle.std.specs.Prelude.{◌≡◌, ◌≢◌, ℕ, ◌-◌, ◌≤◌, ◌==◌, ◌||◌, ◌&&◌, Bool, true, false, not, nat_le, if◌then◌else◌, suc, zero, List, [], ◌∷◌, ◌++◌, length, All, Option, Some, None}
+use Rattle.std.specs.Prelude.{◌≡◌, ◌≢◌, ℕ, ◌-◌, ◌≤◌, ◌==◌, ◌||◌, Bool, true, false, not, if◌then◌else◌, suc, zero, List, [], ◌∷◌, ◌++◌, length, All, Option, Some, None}
 use Rattle.std.specs.List.{flat_map}
 use Rattle.r2_base.specs.declared.event.Event.{Event}
 use Rattle.r2_base.specs.declared.event.Event.TheVariants.{Datagram as DatagramEvent, Tick as TickEvent, Quiet as QuietEvent}
 use Rattle.hc_tops.specs.declared.line.Line.{Line}
-use Rattle.hc_tops.specs.declared.line.Line.TheVariants.{Tick, Quiet, In}
-use Rattle.hc_tops.specs.declared.request.Request.{Request}
+use Rattle.hc_tops.specs.declared.line.Line.TheVariants.{Tick, Quiet, In, Restart}
 use Rattle.hc_tops.specs.declared.setup.Setup.{Setup}
 use Rattle.hc_tops.specs.declared.member.Member.{Member}
-use Rattle.hc_tops.specs.Durable.{stands_in}
 use Rattle.hc_tops.specs.Member.{begin, own_address}
-use Rattle.hc_tops.specs.Heard.{whole_request}
+use Rattle.hc_tops.specs.declared.heard.Heard.{Heard}
+use Rattle.hc_tops.specs.declared.heard.Heard.TheVariants.{Nothing, Whole, Time}
+use Rattle.hc_tops.specs.Heard.{hear}
 use Rattle.hc_tops.specs.Turn.{finished, Reacted, turned}
 use Rattle.hc_tops.specs.Printed.{turn_text}
 use Rattle.hc_tops.specs.Line.{IsLine}
@@ -31,15 +31,21 @@ Say ([] ∷ texts) lines = Say texts lines
 Say ((b ∷ text) ∷ texts) [] = ⊥
 Say ((b ∷ text) ∷ texts) (line ∷ lines) = IsLine (b ∷ text) line × Say texts lines
 
--- the event of a line; a datagram comes to the replica's own address
-abbrev pub event_of : Setup → Line → Event
-event_of s Tick = TickEvent
-event_of s Quiet = QuietEvent
-event_of s (In from bytes) = DatagramEvent (record { from = from; to = own_address s; bytes = bytes })
+-- the event of a line, where it has one; a datagram comes to the replica's own address
+abbrev pub event_of : Setup → Line → Option Event
+event_of s Tick = Some TickEvent
+event_of s Quiet = Some QuietEvent
+event_of s (In from bytes) = Some (DatagramEvent (record { from = from; to = own_address s; bytes = bytes }))
+event_of s Restart = None
+
+-- the turn that an event makes; a line without an event isn't run yet, and makes none
+abbrev pub turn_at : Setup → Member → Option Event → Reacted
+turn_at s m (Some event) = turned s m event
+turn_at s m None = record { member = m; stored = None; sends = [] }
 
 -- the turn that a line makes
 unfoldable pub line_turn : Setup → Member → Line → Reacted
-line_turn s m line = turned s m (event_of s line)
+line_turn s m line = turn_at s m (event_of s line)
 
 -- the member behind some lines
 unfoldable pub after : Setup → Member → List Line → Member
@@ -75,25 +81,29 @@ abbrev pub is_later_command : List ℕ → Bool
 is_later_command [] = false
 is_later_command (tag ∷ rest) = tag == 0x44 || tag == 0x43 || tag == 0x53 || tag == 0x4E
 
--- whether a member can take a request: it is short, of a command that is there, and new
-unfoldable pub is_taken : Member → Request → Bool
-is_taken m r = nat_le (length r.body) 1000 && not (is_later_command r.body) && not (stands_in r.rid m.log)
+-- whether a request is whole now whose command isn't there yet
+abbrev pub is_later : Heard → Bool
+is_later (Whole r) = is_later_command r.body
+is_later Nothing = false
+is_later Time = false
 
--- whether a member can take the request that came, where one did
-abbrev pub is_taken_whole : Member → Option Request → Bool
-is_taken_whole m (Some r) = is_taken m r
-is_taken_whole m None = false
+-- whether a member can take an event
+unfoldable pub is_taken : Member → Event → Bool
+is_taken m event = not (is_later (hear m.unfinished event).said)
+
+-- whether a member can take the event of a line, where it has one
+abbrev pub is_run : Member → Option Event → Bool
+is_run m (Some event) = is_taken m event
+is_run m None = false
 
 -- whether a member can run a line
-unfoldable pub is_built : Member → Line → Bool
-is_built m Tick = true
-is_built m Quiet = true
-is_built m (In from bytes) = is_taken_whole m (whole_request from bytes)
+abbrev pub is_built : Setup → Member → Line → Bool
+is_built s m line = is_run m (event_of s line)
 
 -- lines that a member can run one after another
 abbrev pub AreBuilt : Setup → Member → List Line → Type 0
 AreBuilt s m [] = Unit {0}
-AreBuilt s m (line ∷ lines) = (is_built m line ≡ true) × AreBuilt s (line_turn s m line).member lines
+AreBuilt s m (line ∷ lines) = (is_built s m line ≡ true) × AreBuilt s (line_turn s m line).member lines
 
 -- the texts are lines that a member can run, and say these
 pub record AreLines (s : Setup) (m : Member) (texts : List (List ℕ)) (lines : List Line) : Type 0 where
@@ -101,6 +111,23 @@ pub record AreLines (s : Setup) (m : Member) (texts : List (List ℕ)) (lines : 
   pub said : Say texts lines
   pub built : AreBuilt s m lines
 
--- the text isn't a line that a member can run
-abbrev pub IsRefused : Member → List ℕ → Type 0
-IsRefused m text = (line : Line) → IsText text → IsLine text line → is_built m line ≡ false
+-- the text is no line of a script
+abbrev pub IsOutside : List ℕ → Type 0
+IsOutside text = (line : Line) → IsText text → IsLine text line → ⊥
+
+-- the text is a line that a member can't run yet
+pub record IsUnbuilt (s : Setup) (m : Member) (text : List ℕ) : Type 0 where
+  pub line : Line
+  pub short : IsText text
+  pub said : IsLine text line
+  pub unbuilt : is_built s m line ≡ false
+
+-- why a text isn't run: it is no line, or one that can't be run yet
+pub data Refusal : Type 0 where
+  Outside : Refusal
+  Unbuilt : Refusal
+
+-- the text isn't run by a member, for this reason
+abbrev pub IsRefused : Setup → Refusal → Member → List ℕ → Type 0
+IsRefused s Outside m text = IsOutside text
+IsRefused s Unbuilt m text = IsUnbuilt s m text

@@ -4,7 +4,7 @@ use Rattle.std.specs.Io.KnownBytes.{Appends}
 use Rattle.r2_link.specs.Faults.{Rose}
 use Rattle.r2_link.specs.Streams.{AppendsFront}
 use Rattle.hc_tops.specs.declared.status.Status.{Status}
-use Rattle.hc_tops.specs.declared.status.Status.TheVariants.{Done, BadWords, Memory, SourceFault, SinkFault, TurnsSpent, NotBuilt}
+use Rattle.hc_tops.specs.declared.status.Status.TheVariants.{Done, BadWords, BadScript, Memory, SourceFault, SinkFault, TurnsSpent, NotBuilt}
 
 -- printing stops where the sink failed, or for want of memory, and for no other cause
 abbrev pub StopsBySink : ℕ → ℕ → Status → Type 0
@@ -12,6 +12,7 @@ StopsBySink old new SinkFault = Rose old new
 StopsBySink old new Memory = Unit {0}
 StopsBySink old new Done = ⊥
 StopsBySink old new BadWords = ⊥
+StopsBySink old new (BadScript line) = ⊥
 StopsBySink old new SourceFault = ⊥
 StopsBySink old new TurnsSpent = ⊥
 StopsBySink old new (NotBuilt line) = ⊥

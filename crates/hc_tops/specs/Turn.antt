@@ -16,7 +16,12 @@ use Rattle.hc_tops.specs.Durable.{blank_of, has_room, stands_in, same_vote}
 use Rattle.hc_tops.specs.Pool.{waits_in}
 use Rattle.hc_tops.specs.Queues.{new_queues, choose, assign, report}
 use Rattle.hc_tops.specs.Member.{own_address}
-use Rattle.hc_tops.specs.Heard.{Heard, Nothing, Whole, Time, heard, reply_datagram}
+use Rattle.r2_frag.specs.declared.kept.KeptReply.{KeptReply}
+use Rattle.r2_frag.specs.Kept.{kept_with, newest}
+use Rattle.hc_tops.specs.declared.heard.Heard.{Heard}
+use Rattle.hc_tops.specs.declared.heard.Heard.TheVariants.{Nothing, Whole, Time}
+use Rattle.hc_tops.specs.Heard.{hear, policy_of}
+use Rattle.hc_tops.specs.Replies.{reply_parts}
 
 -- the member waits with everything that is committed and not applied, 4,096 entries at most
 unfoldable pub batched : Member → Member
@@ -27,17 +32,34 @@ pub record Sent : Type 0 where
   pub member : Member
   pub sends : List Datagram
 
+-- a reply as it is kept
+abbrev pub reply_of : Stored → List ℕ → KeptReply
+reply_of stored payload = record { rid = stored.entry.rid; policy = policy_of stored.entry.kind; payload = payload }
+
 -- the reply to an entry goes out where this member is its replier
 abbrev pub reply_sent : Setup → Stored → List ℕ → List Datagram
 reply_sent s stored payload =
-    if stored.entry.replier == s.me then reply_datagram (own_address s) stored.entry.kind stored.entry.rid payload ∷ [] else []
+    if stored.entry.replier == s.me then reply_parts (own_address s) (policy_of stored.entry.kind) stored.entry.rid payload else []
+
+-- and is kept there
+abbrev pub reply_kept : Setup → List KeptReply → Stored → List ℕ → List KeptReply
+reply_kept s kept stored payload = if stored.entry.replier == s.me then kept_with kept (reply_of stored payload) else kept
+
+-- the payload of the reply to the next entry
+abbrev pub next_payload : Member → Served → List ℕ
+next_payload m served = payload_of (m.applied + 1) served.status served.value
 
 -- a request of the log is served at the next index
 abbrev pub served_next : Setup → Member → Stored → Served → Sent
 served_next s m stored served =
     record {
-      member = record m { applied = m.applied + 1; store = served.contents };
-      sends = reply_sent s stored (payload_of (m.applied + 1) served.status served.value);
+      member =
+          record m {
+            applied = m.applied + 1;
+            store = served.contents;
+            kept = reply_kept s m.kept stored (next_payload m served);
+          };
+      sends = reply_sent s stored (next_payload m served);
     }
 
 -- the next entry of the log is applied; a blank one changes nothing else
@@ -63,7 +85,7 @@ unfoldable pub reported : Setup → Member → Role → Member
 reported s m Leader = record m { queues = report m.queues s.me m.applied }
 reported s m _ = m
 
--- the pending batch of a member; where nothing was set aside since the last one, what is due now
+-- a member with its pending batch; where nothing was set aside since the last one, with what is due now
 unfoldable pub due : Member → Member
 due m = if m.pending == 0 then batched m else m
 
@@ -87,11 +109,24 @@ pub record Outcome : Type 0 where
 abbrev pub stays : Member → Member → Outcome
 stays old new = record { member = new; keep = length old.log; sends = [] }
 
--- a whole request goes into the pool, unless it stands in the log or the pool already, or the pool is full
+-- a new request goes into the pool, unless it waits there already, or the pool is full
 unfoldable pub pooled : Member → Request → Member
 pooled m r =
-    if stands_in r.rid m.log || waits_in r.rid m.pool || nat_le 4096 (length m.pool) then m
+    if waits_in r.rid m.pool || nat_le 4096 (length m.pool) then m
     else record m { pool = m.pool ++ r ∷ [] }
+
+-- the kept reply to a request goes out again, where one is kept
+abbrev pub resent : Setup → Request → Option KeptReply → List Datagram
+resent s r (Some reply) = reply_parts (own_address s) reply.policy r.rid reply.payload
+resent s r None = []
+
+-- a request that stands in the log is answered again
+abbrev pub answered_again : Setup → Member → Request → Outcome
+answered_again s m r = record { member = m; keep = length m.log; sends = resent s r (newest r.rid m.kept) }
+
+-- a whole request: one that stands in the log is answered again, another waits to be ordered
+unfoldable pub request_row : Setup → Member → Request → Outcome
+request_row s m r = if stands_in r.rid m.log then answered_again s m r else stays m (pooled m r)
 
 -- one tick more without word from a leader; a full pool loses its oldest request
 unfoldable pub waited : Member → Member
@@ -135,7 +170,7 @@ tick_row s m _ = stays m (ticked s m)
 -- the row that fits what was heard
 unfoldable pub row : Setup → Member → Heard → Outcome
 row s m Nothing = stays m m
-row s m (Whole r) = stays m (pooled m r)
+row s m (Whole r) = request_row s m r
 row s m Time = tick_row s m m.role
 
 -- a request as an entry of the log
@@ -207,12 +242,20 @@ pub record Reacted : Type 0 where
   pub stored : Option Record
   pub sends : List Datagram
 
--- the reaction to an event
-unfoldable pub reacted : Setup → Member → Event → Reacted
-reacted s m event =
-    let outcome = row s m (heard event) in
+-- the reaction to what was heard
+unfoldable pub reacted_to : Setup → Member → Heard → Reacted
+reacted_to s m said =
+    let outcome = row s m said in
     let new = settled s outcome.keep outcome.member in
     record { member = new; stored = stored_of m.term m.vote (length m.log) outcome.keep new; sends = outcome.sends }
+
+-- a member that heard an event: the parts that came with it are kept
+unfoldable pub hearing : Member → Event → Member
+hearing m event = record m { unfinished = (hear m.unfinished event).unfinished }
+
+-- the reaction to an event
+unfoldable pub reacted : Setup → Member → Event → Reacted
+reacted s m event = reacted_to s (hearing m event) (hear m.unfinished event).said
 
 -- a whole turn: what is pending first, then the reaction
 unfoldable pub turned : Setup → Member → Event → Reacted

@@ -3,6 +3,8 @@
 
 mod asked;
 mod command;
+mod heard;
+mod hearing;
 mod line;
 mod log;
 mod log_steps;

@@ -16,12 +16,14 @@ pub enum Line {
     Quiet,
     /// A datagram comes in.
     In { from: Addr, bytes: Bytes },
+    /// The replica starts again from its records.
+    Restart,
 }
 
 /// Why a line wasn't read.
 #[derive(Clone, Copy, Debug, PartialEq, Eq)]
 pub(crate) enum LineFault {
-    /// No replay has such a line.
+    /// No script has such a line.
     Outside,
     Memory,
 }
@@ -37,6 +39,9 @@ pub(crate) fn replay_line(alloc: Global, line: &[u8]) -> Result<Line, LineFault>
     }
     if line == b"quiet".as_slice() {
         return Ok(Line::Quiet);
+    }
+    if line == b"restart".as_slice() {
+        return Ok(Line::Restart);
     }
     read_incoming(alloc, line)
 }

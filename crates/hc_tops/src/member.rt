@@ -1,17 +1,20 @@
 ghost use Rattle.hc_tops.specs.Durable.{blank_of, same_vote};
 ghost use Rattle.hc_tops.specs.Turn.{entry_of};
-ghost use Rattle.std.specs.Prelude.{◌≡◌, ◌^◌, ℕ, ◌+◌, ◌-◌, ◌<◌, ◌≤◌, ◌++◌, true, false, length, slice_get, Some, IfOk, OnOk, MatchOption};
+ghost use Rattle.std.specs.Prelude.{◌≡◌, ◌^◌, ℕ, ◌+◌, ◌-◌, ◌<◌, ◌≤◌, ◌++◌, true, false, All, length, slice_get, Some, IfOk, OnOk, MatchOption};
 
+use crate::heard::Heard;
+use crate::hearing::hear;
 use crate::log::Log;
 use crate::pool::Pool;
 use crate::queues::Queues;
 use crate::record::{Record, Stored};
-use crate::replies::reply_datagram;
-use crate::request::{Request, whole_request};
+use crate::replies::{payload_of, policy_of, reply_parts};
+use crate::request::Request;
 use crate::setup::Setup;
 use crate::store::Store;
 use crate::turn::Turn;
 use r2_base::{Addr, Bytes, Datagram, Datagrams, Entry, Event, Kind, Listed, NoMemory, Rid};
+use r2_frag::{Assembly, Kept};
 use std::alloc::Global;
 
 /// How many entries one batch may have.
@@ -53,27 +56,33 @@ pub struct Member {
     pub applied: u64,
     /// How many entries behind `applied` wait to be applied by the next turn.
     pub pending: u64,
+    /// The messages some of whose parts came.
+    pub unfinished: Assembly,
     pub pool: Pool,
     /// The index of a leader's first entry of its own term.
     pub term_start: u64,
     pub queues: Queues,
     pub store: Store,
+    /// The replies to the last requests that this member answered.
+    pub kept: Kept,
     /// How many ticks there were without word from a leader.
     pub silent: u32,
 }
 
 impl Member {
-    ghost use Rattle.hc_tops.specs.Member.{begin, own_address, IsSound};
+    ghost use Rattle.hc_tops.specs.Member.{begin, own_address, AreShort, IsSound};
     ghost use Rattle.hc_tops.specs.Replay.{IsAlone};
-    ghost use Rattle.hc_tops.specs.Turn.{batched, due, applied_one, applied_all, batch_of, reported, finished, pooled, waited, is_impatient, stood, won, ticked, row, order_next, ordered, ordering, counting, settled, stored_of, reacted};
-    ghost use Rattle.hc_tops.specs.Heard.{heard};
+    ghost use Rattle.hc_tops.specs.Turn.{batched, due, applied_one, applied_all, batch_of, reported, finished, pooled, resent, request_row, waited, is_impatient, stood, won, ticked, row, order_next, ordered, ordering, counting, settled, stored_of, hearing, reacted_to};
+    ghost use Rattle.hc_tops.specs.Heard.{hear, policy_of, IsShortHeard};
+    ghost use Rattle.hc_tops.specs.Replies.{reply_parts, IsAnswer};
+    ghost use Rattle.r2_frag.specs.Kept.{kept_with, newest};
 
     /// A member that has nothing yet.
     #[tactic(auto, unfolding(crate::specs::Member::begin))]
-    pub(crate) fn begin(alloc: Global) -> Member
-        ensures { result ≡ begin }
+    pub(crate) fn begin(alloc: Global) -> Result<Member, NoMemory>
+        ensures { IfOk result (λ m. m ≡ begin) }
     {
-        Member {
+        Ok(Member {
             term: 0,
             vote: None,
             log: Log::new(alloc),
@@ -81,12 +90,14 @@ impl Member {
             commit: 0,
             applied: 0,
             pending: 0,
+            unfinished: Assembly::new(alloc),
             pool: Pool::new(alloc),
             term_start: 0,
             queues: Queues::none(alloc),
             store: Store::new(alloc),
+            kept: Kept::new(alloc)?,
             silent: 0,
-        }
+        })
     }
 
     #[tactic(auto, unfolding(crate::specs::Turn::batched))]
@@ -106,6 +117,28 @@ impl Member {
         }
     }
 
+    /// Keeps the reply to an entry, and puts its datagrams behind `sends`.
+    fn answer(
+        &mut self,
+        alloc: Global,
+        setup: &Setup,
+        entry: &Entry,
+        payload: Bytes,
+        sends: &mut Vec<Datagram>,
+    ) -> Result<(), NoMemory>
+        requires alone { IsAlone setup.now }
+        requires limit { length payload ≤ 65536 }
+        ensures state { OnOk result (self.new ≡ record self.old { kept = kept_with self.old.kept (record { rid = entry.now.rid; policy = policy_of entry.now.kind; payload = payload }) }) }
+        ensures replies { OnOk result (sends.new.items ≡ sends.old.items ++ reply_parts (own_address setup.now) (policy_of entry.now.kind) entry.now.rid payload) }
+    {
+        let policy = policy_of(entry.kind);
+        let from = setup.own_address();
+        let datagrams = reply_parts(alloc, from, policy, entry.rid, payload.as_slice())?;
+        sends.append(&mut datagrams.into_vec())?;
+        self.kept.keep(entry.rid, policy, payload);
+        Ok(())
+    }
+
     /// Applies the next entry of the log; its reply goes behind `sends`.
     #[tactic(auto, unfolding(crate::specs::Turn::applied_one))]
     fn apply_next(
@@ -117,6 +150,8 @@ impl Member {
         requires alone { IsAlone setup.now }
         requires there { self.old.applied < length self.old.log }
         requires fits { length self.old.log ≤ 2 ^ 62 }
+        requires bodies { All (λ stored. length stored.body ≤ 61440) self.old.log }
+        requires values { AreShort self.old.store }
         ensures state { OnOk result ((stored : _) → slice_get self.old.log self.old.applied ≡ Some stored
             → self.new ≡ (applied_one setup.now self.old stored).member) }
         ensures replies { OnOk result ((stored : _) → slice_get self.old.log self.old.applied ≡ Some stored
@@ -130,9 +165,9 @@ impl Member {
             return Ok(());
         }
         let reply = self.store.serve(alloc, entry.kind, stored.body.as_slice())?;
+        let payload = payload_of(alloc, index, &reply)?;
         if entry.replier == setup.me {
-            let from = setup.own_address();
-            sends.push(reply_datagram(alloc, from, &entry, index, &reply)?)?;
+            self.answer(alloc, setup, &entry, payload, sends)?;
         }
         self.applied = index;
         Ok(())
@@ -143,6 +178,9 @@ impl Member {
         requires alone { IsAlone setup.now }
         requires there { self.old.applied + self.old.pending ≤ length self.old.log }
         requires fits { length self.old.log ≤ 2 ^ 62 }
+        requires bodies { All (λ stored. length stored.body ≤ 61440) self.old.log }
+        requires values { AreShort self.old.store }
+        requires kept { All IsAnswer self.old.kept }
         ensures replies { IfOk result (λ sends. sends.items ≡ (applied_all setup.now self.old (batch_of self.old)).sends) }
         ensures applied { OnOk result (self.new ≡ (applied_all setup.now self.old (batch_of self.old)).member) }
     {
@@ -180,14 +218,11 @@ impl Member {
         Ok(Listed::from_vec(sends))
     }
 
-    /// Puts a whole request into the pool, unless it is known already or the pool is full.
+    /// Puts a new request into the pool, unless it waits there already or the pool is full.
     #[tactic(auto, unfolding(crate::specs::Turn::pooled))]
     fn pool_request(&mut self, request: Request) -> Result<(), NoMemory>
         ensures { OnOk result (self.new ≡ pooled self.old request) }
     {
-        if self.log.contains(&request.rid) {
-            return Ok(());
-        }
         if self.pool.contains(&request.rid) {
             return Ok(());
         }
@@ -266,31 +301,60 @@ impl Member {
         Ok(())
     }
 
-    /// Does what the table of reactions says for an event.
-    #[tactic(auto, unfolding(crate::specs::Turn::row))]
-    fn row(&mut self, alloc: Global, setup: &Setup, event: &Event) -> Result<(), NoMemory>
+    /// The kept reply to a request once more, where one is kept.
+    fn resend(&self, alloc: Global, setup: &Setup, request: &Request) -> Result<Datagrams, NoMemory>
         requires alone { IsAlone setup.now }
-        ensures { OnOk result (self.new ≡ (row setup.now self.old (heard event.now)).member) }
+        requires replies { All IsAnswer self.now.kept }
+        ensures { IfOk result (λ sends. sends ≡ resent setup.now request.now (newest request.now.rid self.now.kept)) }
     {
-        match event {
-            Event::Datagram(datagram) => {
-                let heard = whole_request(alloc, datagram.from, datagram.bytes.as_slice())?;
-                match heard {
-                    Some(request) => self.pool_request(request),
-                    None => Ok(()),
-                }
-            }
-            Event::Tick => {
-                if self.role == Role::Leader {
-                    return Ok(());
-                }
-                self.tick(alloc, setup)
-            }
-            Event::Quiet => Ok(()),
-        }
+        let Some((policy, payload)) = self.kept.find(&request.rid) else {
+            return Ok(Listed::from_vec(Vec::new(alloc)));
+        };
+        let from = setup.own_address();
+        reply_parts(alloc, from, policy, request.rid, payload.as_slice())
     }
 
-    /// Orders the oldest request of the pool, and says whether there was one to order.
+    /// Takes a whole request: one that stands in the log is answered again, another waits to be ordered.
+    #[tactic(auto, unfolding(crate::specs::Turn::request_row))]
+    fn take_request(
+        &mut self,
+        alloc: Global,
+        setup: &Setup,
+        request: Request,
+    ) -> Result<Datagrams, NoMemory>
+        requires alone { IsAlone setup.now }
+        requires replies { All IsAnswer self.old.kept }
+        ensures state { OnOk result (self.new ≡ (request_row setup.now self.old request).member) }
+        ensures sends { IfOk result (λ sends. sends ≡ (request_row setup.now self.old request).sends) }
+    {
+        if self.log.contains(&request.rid) {
+            return self.resend(alloc, setup, &request);
+        }
+        self.pool_request(request)?;
+        Ok(Listed::from_vec(Vec::new(alloc)))
+    }
+
+    /// Does what the table of reactions says for what was heard, and gives what it sends.
+    #[tactic(auto, unfolding(crate::specs::Turn::row))]
+    fn row(&mut self, alloc: Global, setup: &Setup, said: Heard) -> Result<Datagrams, NoMemory>
+        requires alone { IsAlone setup.now }
+        requires replies { All IsAnswer self.old.kept }
+        ensures state { OnOk result (self.new ≡ (row setup.now self.old said).member) }
+        ensures sends { IfOk result (λ sends. sends ≡ (row setup.now self.old said).sends) }
+    {
+        match said {
+            Heard::Whole(request) => return self.take_request(alloc, setup, request),
+            Heard::Time => {
+                if self.role != Role::Leader {
+                    self.tick(alloc, setup)?;
+                }
+            }
+            Heard::Nothing => {}
+        }
+        Ok(Listed::from_vec(Vec::new(alloc)))
+    }
+
+    /// Orders the oldest request of the pool, where it may be ordered, and says whether it was.
     #[tactic(auto, unfolding(crate::specs::Turn::order_next))]
     fn order_next(&mut self, bound: u16) -> Result<bool, NoMemory>
         requires { length self.old.log ≤ 2 ^ 62 }
@@ -397,28 +461,38 @@ impl Member {
         }))
     }
 
-    /// Reacts to an event: what changed of the durable state, and what goes out behind it.
-    #[tactic(auto, unfolding(crate::specs::Turn::reacted))]
+    /// Hears an event: takes up the part that comes with it, and says what the event says then.
+    #[tactic(auto, unfolding(crate::specs::Turn::hearing))]
+    pub(crate) fn hear(&mut self, event: &Event) -> Result<Heard, NoMemory>
+        ensures said { IfOk result (λ said. said ≡ (hear self.old.unfinished event.now).said) }
+        ensures state { OnOk result (self.new ≡ hearing self.old event.now) }
+    {
+        hear(&mut self.unfinished, event)
+    }
+
+    /// Reacts to what was heard: what changed of the durable state, and what goes out behind it.
+    #[tactic(auto, unfolding(crate::specs::Turn::reacted_to))]
     pub(crate) fn react(
         &mut self,
         alloc: Global,
         setup: &Setup,
-        event: &Event,
+        said: Heard,
     ) -> Result<Turn, NoMemory>
         requires alone { IsAlone setup.now }
         requires sound { IsSound setup.now self.old }
-        ensures state { OnOk result (self.new ≡ (reacted setup.now self.old event.now).member) }
-        ensures stored { IfOk result (λ turn. turn.stored ≡ (reacted setup.now self.old event.now).stored) }
-        ensures sends { IfOk result (λ turn. turn.sends ≡ (reacted setup.now self.old event.now).sends) }
+        requires short { IsShortHeard said }
+        ensures state { OnOk result (self.new ≡ (reacted_to setup.now self.old said).member) }
+        ensures stored { IfOk result (λ turn. turn.stored ≡ (reacted_to setup.now self.old said).stored) }
+        ensures sends { IfOk result (λ turn. turn.sends ≡ (reacted_to setup.now self.old said).sends) }
     {
         let term = self.term;
         let vote = self.vote;
         let keep = self.log.last();
-        self.row(alloc, setup, event)?;
+        let sends = self.row(alloc, setup, said)?;
         self.settle(setup, keep)?;
         Ok(Turn {
             stored: self.stored(alloc, term, vote, keep, keep)?,
-            sends: Listed::from_vec(Vec::new(alloc)),
+            sends,
         })
     }
 }

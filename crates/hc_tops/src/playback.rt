@@ -86,7 +86,7 @@ impl Playback {
             return self.end_line(alloc, sink);
         }
         if self.partial.len() >= LINE_LIMIT {
-            return Err(Status::NotBuilt {
+            return Err(Status::BadScript {
                 line: self.lines + 1,
             });
         }

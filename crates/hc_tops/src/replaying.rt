@@ -1,7 +1,8 @@
-ghost use Rattle.std.specs.Prelude.{◌≡◌, ◌≤◌, ◌<◌, ℕ, length, take, IfOk, IfErr, OnErr};
+ghost use Rattle.std.specs.Prelude.{◌≡◌, ◌≤◌, ◌<◌, ℕ, List, Some, length, take, IfOk, IfErr, OnErr};
 ghost use Rattle.std.specs.Io.KnownBytes.{Consumes, Keeps, IsAtEnd};
 ghost use Rattle.r2_link.specs.Faults.{Rose};
-ghost use Rattle.hc_tops.specs.Replay.{IsAlone, IsReplay};
+ghost use Rattle.hc_tops.specs.Grammar.{IsScript};
+ghost use Rattle.hc_tops.specs.Replay.{IsAlone, IsComplete, IsReplay};
 ghost use Rattle.hc_tops.specs.declared.status.Status.TheVariants.{SourceFault, SinkFault};
 
 use crate::member::Member;
@@ -33,11 +34,8 @@ fn read_some<S: Source>(source: &mut S, chunk: &mut [u8], most: u64) -> Result<u
     source.read(&mut chunk[..room])
 }
 
-/// Runs the script that `source` gives, one replica alone in its group, and writes what it prints to `sink`.
-///
-/// Lines that are known run before more of the source is read; of a turn the record is printed before the datagrams.
-/// Whether the source or the sink failed is told by the status alone: both stay as their last call left them.
-pub fn replay<S: Source, K: Sink>(
+/// Runs the script piece by piece, as `source` gives it.
+fn run_pieces<S: Source, K: Sink>(
     alloc: Global,
     setup: Setup,
     source: &mut S,
@@ -52,9 +50,12 @@ pub fn replay<S: Source, K: Sink>(
     ensures source_steady { S.faults source.old ≤ S.faults source.new }
     ensures sink_steady { K.faults sink.old ≤ K.faults sink.new }
 {
+    let Ok(member) = Member::begin(alloc) else {
+        return Status::Memory;
+    };
     let mut playback = Playback {
         setup,
-        member: Member::begin(alloc),
+        member,
         partial: Vec::new(alloc),
         lines: 0,
     };
@@ -76,4 +77,31 @@ pub fn replay<S: Source, K: Sink>(
         left -= count as u64;
     }
     Status::TurnsSpent
+}
+
+/// Runs the script that `source` gives, one replica alone in its group, and writes what it prints to `sink`.
+///
+/// Lines that are known run before more of the source is read; of a turn the record is printed before the datagrams.
+/// Whether the source or the sink failed is told by the status alone: both stay as their last call left them.
+pub fn replay<S: Source, K: Sink>(
+    alloc: Global,
+    setup: Setup,
+    source: &mut S,
+    sink: &mut K,
+) -> Status
+    requires { IsAlone setup }
+
+    ensures ran { IsReplay setup (S.left source.old) (S.left source.new) (K.written sink.old) (K.written sink.new) result }
+
+    // A script in its grammar, where neither the source nor the sink failed, is run to its end, or ends at a line that
+    // isn't built, at 2^56 bytes, or for want of memory.
+    ensures complete { (script : List ℕ) → S.left source.old ≡ Some script → IsScript script
+        → (Rose (S.faults source.old) (S.faults source.new) → ⊥) → (Rose (K.faults sink.old) (K.faults sink.new) → ⊥) → IsComplete result }
+
+    ensures source_fault { result ≡ SourceFault → Rose (S.faults source.old) (S.faults source.new) }
+    ensures sink_fault { result ≡ SinkFault → Rose (K.faults sink.old) (K.faults sink.new) }
+    ensures source_steady { S.faults source.old ≤ S.faults source.new }
+    ensures sink_steady { K.faults sink.old ≤ K.faults sink.new }
+{
+    run_pieces(alloc, setup, source, sink)
 }

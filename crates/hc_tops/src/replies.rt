@@ -1,49 +1,56 @@
-ghost use Rattle.std.specs.Prelude.{◌≡◌, IfOk};
+ghost use Rattle.std.specs.Prelude.{◌≡◌, ◌≤◌, length, IfOk};
 ghost use Rattle.hc_tops.specs.Service.{payload_of};
-ghost use Rattle.hc_tops.specs.Heard.{policy_of, reply_datagram};
+ghost use Rattle.hc_tops.specs.Heard.{policy_of};
+ghost use Rattle.hc_tops.specs.Replies.{reply_parts};
 
 use crate::reply::Reply;
-use r2_base::{Addr, Datagram, Entry, Kind, Listed, NoMemory, push_u64};
-use r2_header::{Header, Packet, write};
+use r2_base::{Addr, Bytes, Datagrams, Kind, Listed, NoMemory, Rid, push_u64};
+use r2_frag::{Class, Key, PartSpec, parts};
 use std::alloc::Global;
 
-/// The reply to the request of an entry, as one datagram.
-#[tactic(auto, unfolding(crate::specs::Heard::reply_datagram, crate::specs::Service::payload_of))]
-pub(crate) fn reply_datagram(
+/// The payload of a reply: the index of the request's entry, the status and the value.
+#[tactic(auto, unfolding(crate::specs::Service::payload_of))]
+pub(crate) fn payload_of(alloc: Global, index: u64, reply: &Reply) -> Result<Bytes, NoMemory>
+    ensures { IfOk result (λ p. p ≡ payload_of index reply.now.status reply.now.value) }
+{
+    let mut payload = Vec::new(alloc);
+    push_u64(&mut payload, index)?;
+    payload.push(reply.status)?;
+    payload.extend_from_slice(reply.value.as_slice())?;
+    Ok(Listed::from_vec(payload))
+}
+
+/// The datagrams of a reply, from the replica to the client that asked.
+#[tactic(auto, unfolding(crate::specs::Replies::reply_parts))]
+pub(crate) fn reply_parts(
     alloc: Global,
     from: Addr,
-    entry: &Entry,
-    index: u64,
-    reply: &Reply,
-) -> Result<Datagram, NoMemory>
-    ensures { IfOk result (λ d. d ≡ reply_datagram from entry.now.kind entry.now.rid (payload_of index reply.now.status reply.now.value)) }
+    policy: u8,
+    rid: Rid,
+    payload: &[u8],
+) -> Result<Datagrams, NoMemory>
+    requires policy { policy ≤ 3 }
+    requires limit { length payload.now ≤ 65536 }
+    ensures { IfOk result (λ sends. sends ≡ reply_parts from policy rid payload.now) }
 {
-    let header = Header {
-        packet: Packet::Reply,
-        policy: policy_of(entry.kind),
-        first: true,
-        last: true,
-        id: entry.rid.id,
-        number: 1,
-        client: None,
-    };
-    let mut head = [0u8; 20];
-    let size = write(&header, &mut head);
-    let mut bytes = Vec::new(alloc);
-    bytes.extend_from_slice(&head[..size])?;
-    push_u64(&mut bytes, index)?;
-    bytes.push(reply.status)?;
-    bytes.extend_from_slice(reply.value.as_slice())?;
-    Ok(Datagram {
+    let spec = PartSpec {
+        key: Key {
+            class: Class::Reply,
+            policy,
+            from,
+            rid,
+        },
         from,
-        to: entry.rid.client,
-        bytes: Listed::from_vec(bytes),
-    })
+        to: rid.client,
+        extended: false,
+    };
+    parts(alloc, &spec, payload)
 }
 
 /// The policy under which the replies to requests of a kind go.
-fn policy_of(kind: Kind) -> u8
-    ensures { result ≡ policy_of kind }
+pub(crate) fn policy_of(kind: Kind) -> u8
+    ensures exact { result ≡ policy_of kind }
+    ensures within { result ≤ 3 }
 {
     match kind {
         Kind::Blank => 0,

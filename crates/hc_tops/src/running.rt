@@ -1,69 +1,32 @@
-ghost use Rattle.std.specs.Prelude.{◌≡◌, ◌≤◌, [], ◌∷◌, IfOk, IfErr, OnOk};
+ghost use Rattle.std.specs.Prelude.{◌≡◌, ◌≤◌, [], ◌∷◌, IfErr, OnOk};
 ghost use Rattle.hc_tops.specs.Member.{IsSound};
 ghost use Rattle.hc_tops.specs.Replay.{IsAlone};
-ghost use Rattle.hc_tops.specs.Script.{IsText, event_of, is_built, is_later_command, is_taken};
+ghost use Rattle.hc_tops.specs.Script.{IsText, event_of};
 ghost use Rattle.hc_tops.specs.Playback.{HasSinkCause, Ran, StopsText};
 
 use crate::line::{Line, LineFault, replay_line};
 use crate::member::Member;
-use crate::request::{Request, whole_request};
 use crate::setup::Setup;
 use crate::status::Status;
-use crate::turns::take_turn;
-use r2_base::{Datagram, Event, NoMemory};
+use crate::turns::{TurnFault, make_turn, print_whole};
+use r2_base::{Datagram, Event};
 use r2_link::Sink;
 use std::alloc::Global;
 
-/// How many bytes the body of a request may have until messages of several parts are taken.
-const BODY_LIMIT: usize = 1_000;
-
-fn is_later_command(body: &[u8]) -> bool
-    ensures { result ≡ is_later_command body.now }
-{
-    match body.first() {
-        None => false,
-        Some(tag) => *tag == 0x44 || *tag == 0x43 || *tag == 0x53 || *tag == 0x4e,
-    }
-}
-
-/// Whether a member can take a request.
-#[tactic(auto, unfolding(crate::specs::Script::is_taken))]
-fn is_taken(member: &Member, request: &Request) -> bool
-    ensures { result ≡ is_taken member.now request.now }
-{
-    request.body.as_slice().len() <= BODY_LIMIT
-        && !is_later_command(request.body.as_slice())
-        && !member.log.contains(&request.rid)
-}
-
-/// Whether a member can run a line.
-#[tactic(auto, unfolding(crate::specs::Script::is_built))]
-fn is_built(alloc: Global, member: &Member, line: &Line) -> Result<bool, NoMemory>
-    ensures { IfOk result (λ built. built ≡ is_built member.now line.now) }
-{
-    match line {
-        Line::Tick => Ok(true),
-        Line::Quiet => Ok(true),
-        Line::In { from, bytes } => match whole_request(alloc, *from, bytes.as_slice())? {
-            None => Ok(false),
-            Some(request) => Ok(is_taken(member, &request)),
-        },
-    }
-}
-
-/// The event of a line.
-fn event_of(setup: &Setup, line: Line) -> Event
+/// The event of a line, where it has one.
+fn event_of(setup: &Setup, line: Line) -> Option<Event>
     requires { IsAlone setup.now }
     ensures { result ≡ event_of setup.now line }
 {
     match line {
-        Line::Tick => Event::Tick,
-        Line::Quiet => Event::Quiet,
-        Line::In { from, bytes } => Event::Datagram(Datagram {
+        Line::Tick => Some(Event::Tick),
+        Line::Quiet => Some(Event::Quiet),
+        Line::In { from, bytes } => Some(Event::Datagram(Datagram {
             from,
             to: setup.own_address(),
             bytes,
-        }),
+        })),
+        Line::Restart => None,
     }
 }
 
@@ -93,16 +56,17 @@ pub(crate) fn run_text<K: Sink>(
     let line = match replay_line(alloc, text) {
         Ok(line) => line,
         Err(LineFault::Memory) => return Err(Status::Memory),
-        Err(LineFault::Outside) => return Err(Status::NotBuilt { line: number }),
+        Err(LineFault::Outside) => return Err(Status::BadScript { line: number }),
     };
-    let Ok(built) = is_built(alloc, member, &line) else {
-        return Err(Status::Memory);
-    };
-    if !built {
+    let Some(event) = event_of(setup, line) else {
         return Err(Status::NotBuilt { line: number });
-    }
-    let event = event_of(setup, line);
-    if let Err(status) = take_turn(alloc, setup, member, &event, sink) {
+    };
+    let turn = match make_turn(alloc, setup, member, &event) {
+        Ok(turn) => turn,
+        Err(TurnFault::NotBuilt) => return Err(Status::NotBuilt { line: number }),
+        Err(TurnFault::Memory) => return Err(Status::Memory),
+    };
+    if let Err(status) = print_whole(alloc, &turn, sink) {
         return Err(status);
     }
     Ok(())

@@ -14,11 +14,19 @@ use std::fmt;
 /// How a command ended.
 #[derive(Clone, Copy, Debug, PartialEq, Eq)]
 pub enum Status {
+    /// The command did all that it had to do.
     Done,
+    /// The words of the command line weren't understood.
     BadWords,
+    /// The line with this number, counted from 1, is no line of a script.
+    BadScript { line: u64 },
+    /// There was too little memory.
     Memory,
+    /// The source failed.
     SourceFault,
+    /// The sink failed.
     SinkFault,
+    /// As much was taken as may be, 2^56 bytes of a script, and the end wasn't reached.
     TurnsSpent,
     /// The line with this number, counted from 1, can't be run yet.
     NotBuilt { line: u64 },
@@ -32,6 +40,7 @@ impl Status {
         match self {
             Status::Done => 0,
             Status::BadWords => 64,
+            Status::BadScript { .. } => 65,
             Status::Memory => 70,
             Status::SourceFault => 71,
             Status::SinkFault => 72,
@@ -48,6 +57,7 @@ impl fmt::Display for Status {
         match self {
             Status::Done => Ok(()),
             Status::BadWords => f.write_str("words not understood"),
+            Status::BadScript { line } => write!(f, "line {line}: not a script line"),
             Status::Memory => f.write_str("out of memory"),
             Status::SourceFault => f.write_str("the source failed"),
             Status::SinkFault => f.write_str("the sink failed"),
@@ -100,23 +110,25 @@ fn write_cause<E: Sink>(errors: &mut E, status: Status) -> Result<(), Failed>
     match status {
         Status::Done => Ok(()),
         Status::BadWords => write_all(errors, b"words not understood"),
+        Status::BadScript { line } => write_at_line(errors, line, b": not a script line"),
         Status::Memory => write_all(errors, b"out of memory"),
         Status::SourceFault => write_all(errors, b"the source failed"),
         Status::SinkFault => write_all(errors, b"the sink failed"),
         Status::TurnsSpent => write_all(errors, b"turns spent"),
-        Status::NotBuilt { line } => write_not_built(errors, line),
+        Status::NotBuilt { line } => write_at_line(errors, line, b": not built yet"),
     }
 }
 
-fn write_not_built<E: Sink>(errors: &mut E, line: u64) -> Result<(), Failed>
-    ensures whole { OnOk result (Appends (E.written errors.old) (E.written errors.new) (codes "line " ++ decimal line ++ codes ": not built yet")) }
-    ensures front { AppendsFront (E.written errors.old) (E.written errors.new) (codes "line " ++ decimal line ++ codes ": not built yet") }
+/// Writes a line's number, and what is said of it.
+fn write_at_line<E: Sink>(errors: &mut E, line: u64, said: &[u8]) -> Result<(), Failed>
+    ensures whole { OnOk result (Appends (E.written errors.old) (E.written errors.new) (codes "line " ++ decimal line ++ said.now)) }
+    ensures front { AppendsFront (E.written errors.old) (E.written errors.new) (codes "line " ++ decimal line ++ said.now) }
     ensures steady { E.faults errors.old ≤ E.faults errors.new }
     ensures cause { OnErr result (Rose (E.faults errors.old) (E.faults errors.new)) }
 {
     write_all(errors, b"line ")?;
     write_decimal(errors, line)?;
-    write_all(errors, b": not built yet")
+    write_all(errors, said)
 }
 
 fn write_decimal<E: Sink>(errors: &mut E, n: u64) -> Result<(), Failed>

@@ -1,10 +1,11 @@
-ghost use Rattle.std.specs.Prelude.{◌≡◌, ◌≢◌, ◌≤◌, ◌↔◌, List, map, IfOk};
+ghost use Rattle.std.specs.Prelude.{◌≡◌, ◌≢◌, ◌≤◌, ◌↔◌, ℕ, List, Some, map, IfOk};
 ghost use Rattle.std.specs.String.{string_bytes};
 ghost use Rattle.r2_base.specs.declared.addr.Addr.{Addr as Address};
 ghost use Rattle.r2_link.specs.Faults.{Rose};
 ghost use Rattle.hc_tops.specs.Words.{AsksReplay};
 ghost use Rattle.hc_tops.specs.Run.{setup_of};
-ghost use Rattle.hc_tops.specs.Replay.{IsReplay};
+ghost use Rattle.hc_tops.specs.Grammar.{IsScript};
+ghost use Rattle.hc_tops.specs.Replay.{IsComplete, IsReplay};
 ghost use Rattle.hc_tops.specs.Printed.{error_text};
 ghost use Rattle.hc_tops.specs.Stops.{Reports};
 ghost use Rattle.hc_tops.specs.declared.status.Status.TheVariants.{BadWords, SourceFault, SinkFault};
@@ -45,6 +46,9 @@ fn replay_alone<S: Source, K: Sink>(
     ensures ran { IsReplay (setup_of member) (S.left source.old) (S.left source.new) (K.written sink.old) (K.written sink.new) result }
     ensures known { result ≢ BadWords }
 
+    ensures complete { (script : List ℕ) → S.left source.old ≡ Some script → IsScript script
+        → (Rose (S.faults source.old) (S.faults source.new) → ⊥) → (Rose (K.faults sink.old) (K.faults sink.new) → ⊥) → IsComplete result }
+
     ensures source_fault { result ≡ SourceFault → Rose (S.faults source.old) (S.faults source.new) }
     ensures sink_fault { result ≡ SinkFault → Rose (K.faults sink.old) (K.faults sink.new) }
     ensures source_steady { S.faults source.old ≤ S.faults source.new }
@@ -74,6 +78,12 @@ pub fn run<S: Source, K: Sink, E: Sink>(
     // Else the replay is that of the replica that they name.
     ensures ran { (member : Address) → AsksReplay (map (λ w. string_bytes w) words.now) member
         → IsReplay (setup_of member) (S.left source.old) (S.left source.new) (K.written sink.old) (K.written sink.new) result }
+
+    // A script in its grammar, where neither the source nor the sink failed, is run to its end, or ends at a line that
+    // isn't built, at 2^56 bytes, or for want of memory.
+    ensures complete { (member : Address) → AsksReplay (map (λ w. string_bytes w) words.now) member
+        → (script : List ℕ) → S.left source.old ≡ Some script → IsScript script
+        → (Rose (S.faults source.old) (S.faults source.new) → ⊥) → (Rose (K.faults sink.old) (K.faults sink.new) → ⊥) → IsComplete result }
 
     // The errors gain exactly the line of the status, or a front of it where they failed.
     ensures told { Reports (E.written errors.old) (E.written errors.new) (E.faults errors.old) (E.faults errors.new) (error_text result) }

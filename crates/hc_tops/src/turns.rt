@@ -1,51 +1,103 @@
-ghost use Rattle.std.specs.Prelude.{◌≡◌, ◌≤◌, None, IfErr, OnOk};
+ghost use Rattle.std.specs.Prelude.{◌≡◌, ◌≤◌, ◌++◌, true, false, None, Err, IfOk, IfErr, IfSome, OnOk};
 ghost use Rattle.std.specs.Io.KnownBytes.{Appends};
 ghost use Rattle.r2_link.specs.Streams.{AppendsFront};
 ghost use Rattle.hc_tops.specs.Member.{IsSound};
 ghost use Rattle.hc_tops.specs.Replay.{IsAlone};
 ghost use Rattle.hc_tops.specs.Turn.{finished, turned};
 ghost use Rattle.hc_tops.specs.Printed.{turn_text};
-ghost use Rattle.hc_tops.specs.Script.{last_text};
+ghost use Rattle.hc_tops.specs.Durable.{FitsFields};
+ghost use Rattle.hc_tops.specs.Script.{is_later, is_taken, last_text};
 ghost use Rattle.hc_tops.specs.Stops.{StopsBySink};
 
+use crate::heard::Heard;
 use crate::member::Member;
 use crate::print::print_turn;
 use crate::setup::Setup;
 use crate::status::Status;
-use r2_base::Event;
+use crate::turn::Turn;
+use r2_base::{Datagrams, Event};
 use r2_link::Sink;
 use std::alloc::Global;
 
-/// Makes one turn of a member and prints it: the record before the datagrams, those of what was pending first.
-pub(crate) fn take_turn<K: Sink>(
+/// What a whole turn gives: the replies to what was pending, then the reaction.
+#[derive(Drop)]
+pub(crate) struct WholeTurn {
+    pub(crate) replies: Datagrams,
+    pub(crate) reaction: Turn,
+}
+
+/// Why no turn was made.
+#[derive(Clone, Copy, Debug, PartialEq, Eq)]
+pub(crate) enum TurnFault {
+    /// The command of a request isn't built yet.
+    NotBuilt,
+    Memory,
+}
+
+/// Whether a request is whole now whose command isn't built yet.
+fn is_later(said: &Heard) -> bool
+    ensures { result ≡ is_later said.now }
+{
+    match said {
+        Heard::Whole(request) => match request.body.as_slice().first() {
+            None => false,
+            Some(tag) => *tag == 0x44 || *tag == 0x43 || *tag == 0x53 || *tag == 0x4e,
+        },
+        Heard::Nothing | Heard::Time => false,
+    }
+}
+
+/// Makes one turn of a member.
+pub(crate) fn make_turn(
     alloc: Global,
     setup: &Setup,
     member: &mut Member,
     event: &Event,
-    sink: &mut K,
-) -> Result<(), Status>
+) -> Result<WholeTurn, TurnFault>
     requires alone { IsAlone setup.now }
     requires sound { IsSound setup.now member.old }
 
     ensures state { OnOk result (member.new ≡ (turned setup.now member.old event.now).member) }
-    ensures whole { OnOk result (Appends (K.written sink.old) (K.written sink.new)
-        (turn_text (turned setup.now member.old event.now).stored (turned setup.now member.old event.now).sends)) }
-    ensures front { AppendsFront (K.written sink.old) (K.written sink.new)
-        (turn_text (turned setup.now member.old event.now).stored (turned setup.now member.old event.now).sends) }
+    ensures stored { IfOk result (λ turn. turn.reaction.stored ≡ (turned setup.now member.old event.now).stored) }
+    ensures sends { IfOk result (λ turn. turn.replies ++ turn.reaction.sends ≡ (turned setup.now member.old event.now).sends) }
+    ensures fits { IfOk result (λ turn. IfSome turn.reaction.stored FitsFields) }
 
+    ensures built { OnOk result (is_taken member.old event.now ≡ true) }
+    ensures unbuilt { result ≡ Err TurnFault.NotBuilt → is_taken member.old event.now ≡ false }
+{
+    let Ok(replies) = member.finish(alloc, setup) else {
+        return Err(TurnFault::Memory);
+    };
+    let Ok(said) = member.hear(event) else {
+        return Err(TurnFault::Memory);
+    };
+    if is_later(&said) {
+        return Err(TurnFault::NotBuilt);
+    }
+    let Ok(reaction) = member.react(alloc, setup, said) else {
+        return Err(TurnFault::Memory);
+    };
+    Ok(WholeTurn { replies, reaction })
+}
+
+/// Prints a turn: the record before the datagrams, those of what was pending first.
+pub(crate) fn print_whole<K: Sink>(
+    alloc: Global,
+    turn: &WholeTurn,
+    sink: &mut K,
+) -> Result<(), Status>
+    requires { IfSome turn.now.reaction.stored FitsFields }
+    ensures whole { OnOk result (Appends (K.written sink.old) (K.written sink.new)
+        (turn_text turn.now.reaction.stored (turn.now.replies ++ turn.now.reaction.sends))) }
+    ensures front { AppendsFront (K.written sink.old) (K.written sink.new)
+        (turn_text turn.now.reaction.stored (turn.now.replies ++ turn.now.reaction.sends)) }
     ensures stops { IfErr result (λ status. StopsBySink (K.faults sink.old) (K.faults sink.new) status) }
     ensures steady { K.faults sink.old ≤ K.faults sink.new }
 {
-    let Ok(replies) = member.finish(alloc, setup) else {
-        return Err(Status::Memory);
-    };
-    let Ok(turn) = member.react(alloc, setup, event) else {
-        return Err(Status::Memory);
-    };
-    if let Err(status) = print_turn(alloc, sink, &turn.stored, replies.as_slice()) {
+    if let Err(status) = print_turn(alloc, sink, &turn.reaction.stored, turn.replies.as_slice()) {
         return Err(status);
     }
-    if let Err(status) = print_turn(alloc, sink, &None, turn.sends.as_slice()) {
+    if let Err(status) = print_turn(alloc, sink, &None, turn.reaction.sends.as_slice()) {
         return Err(status);
     }
     Ok(())

@@ -1,5 +1,5 @@
 -- What passes each check begins with the bytes of its fields.
-use Rattle.std.proofs.Common.{◌≡◌, ◌≤◌, ◌<◌, ◌+◌, ◌*◌, ◌/◌, ◌%◌, ◌==◌, ◌&&◌, ◌⊎◌, inl, inr, ℕ, zero, suc, true, false, List, [], ◌∷◌, All, slice_index, refl, sym, subst, arith}
+use Rattle.std.proofs.Common.{◌≡◌, ◌≤◌, ◌<◌, ◌+◌, ◌*◌, ◌/◌, ◌%◌, ◌==◌, ◌&&◌, ◌⊎◌, inl, inr, ℕ, zero, suc, true, false, List, [], ◌∷◌, All, Ok, slice_index, refl, sym, subst, arith}
 use Rattle.std.proofs.lemmas.Bool.{leb-true}
 use Rattle.std.proofs.lemmas.Bool.Decides.{nat_tests}
 use Rattle.r2_header.specs.declared.header.Header.{Header}
@@ -186,3 +186,11 @@ what_is_read_is_spelled h n bytes ranges e =
     let p = all_pass bytes (fields_at bytes) read.0 in
     let here = begins bytes ranges p in
     subst (λ (v : Header × ℕ). BeginsWith v.0 v.1 bytes) read.1 here
+
+-- what reads as a header is a valid one, whatever the bytes
+pub read_is_valid : (h : Header) (n : ℕ) (bytes : List ℕ) → header_at bytes ≡ Ok (h, n) → IsValid h
+unfolding header_at
+read_is_valid h n bytes e =
+    let read = ok_unless-ok {A = Header × ℕ} _ _ _ e in
+    let p = all_pass bytes (fields_at bytes) read.0 in
+    subst (λ (v : Header × ℕ). IsValid v.0) read.1 (IsValid-passed bytes (fields_at bytes) p)

@@ -3,3 +3,4 @@ pub mod Table
 pub mod Header
 pub mod Reading
 pub mod Laws
+pub mod Faults

@@ -1,3 +1,6 @@
+ghost use Rattle.std.specs.Prelude.{Some};
+ghost use Rattle.r2_header.specs.Faults.{fault_text};
+
 use std::error::Error;
 use std::fmt;
 
@@ -21,16 +24,20 @@ pub enum HeaderFault {
 }
 
 impl fmt::Display for HeaderFault {
+    ghost output = { λ f. Some (fault_text f) };
+
     fn fmt<W: fmt::Write>(&self, f: &mut fmt::Formatter<W>) -> fmt::Result {
-        f.write_str(match self {
-            HeaderFault::Short => "the header is cut short",
-            HeaderFault::Magic => "the first byte isn't 0x52",
-            HeaderFault::Size => "the header's size is neither 8 nor 16",
-            HeaderFault::TypeOrPolicy => "no such type, policy and size of a packet",
-            HeaderFault::Flags => "the flags don't fit the type",
-            HeaderFault::Count => "the count or number of the part is out of range",
-            HeaderFault::Extension => "the header's last two bytes aren't zero",
-        })
+        match self {
+            HeaderFault::Short => f.write_str("the header is cut short"),
+            HeaderFault::Magic => f.write_str("the first byte isn't 0x52"),
+            HeaderFault::Size => f.write_str("the header's size is neither 8 nor 16"),
+            HeaderFault::TypeOrPolicy => f.write_str(
+                "no such type, policy, size and request id of a packet",
+            ),
+            HeaderFault::Flags => f.write_str("the flags don't fit the type"),
+            HeaderFault::Count => { f.write_str("the count or number of the part is out of range") }
+            HeaderFault::Extension => f.write_str("the header's last two bytes aren't zero"),
+        }
     }
 }
 

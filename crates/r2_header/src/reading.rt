@@ -10,7 +10,7 @@ use crate::{Header, HeaderFault, Packet};
 use byteorder::{BigEndian, ByteOrder};
 use r2_base::Addr;
 
-/// The header that `bytes` begin with, and its size.
+/// The header that `bytes` begin with, and its size; the fault is that of the first check that they fail.
 #[tactic(auto, unfolding(crate::specs::Reading::header_at))]
 pub fn read(bytes: &[u8]) -> Result<(Header, usize), HeaderFault>
     ensures read { result ≡ header_at bytes.now }

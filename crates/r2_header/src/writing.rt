@@ -11,7 +11,8 @@ use r2_base::Addr;
 /// The first byte of each header.
 pub const MAGIC: u8 = 0x52;
 
-/// Writes the one spelling of `h` and answers its size.
+/// Writes the one spelling of `h`, which is a valid header, and answers its size, 8 or 16. `out` has room for 20 bytes;
+/// those behind the header stay.
 #[tactic(auto, using(crate::proofs::Spelling::Spells_front))]
 pub fn write(h: &Header, out: &mut [u8]) -> usize
     requires valid { IsValid h.now }

@@ -17,3 +17,9 @@ returns-clause-ran g c = λ member asks.
     let same : c.in-Some.member ≡ member = cc in
     subst (λ (a : Addr). IsReplay (setup_of a) (g.S.Source.left c.args.source.now) (g.S.Source.left c.replay_alone-status.new.source) (g.K.Sink.written c.args.sink.now) (g.K.Sink.written c.replay_alone-status.new.sink) c.replay_alone-status.result)
     same c.replay_alone-status.ensures.ran
+
+pub returns-in_default-clause-complete : goal.returns-in_default-clause-complete
+returns-in_default-clause-complete g c = λ member asks. let some = c.in_default.ensures.only member asks in cc
+
+pub returns-clause-complete : goal.returns-clause-complete
+returns-clause-complete g c = λ member asks. c.replay_alone-status.ensures.complete

@@ -5,6 +5,9 @@ use Rattle.hc_tops.specs.declared.member.Member.{Member}
 use Rattle.hc_tops.specs.declared.record.Stored.{Stored}
 use Rattle.hc_tops.specs.Durable.{blank_of}
 use Rattle.hc_tops.specs.Turn.{Sent, applied_all, batch_of}
+use Rattle.std.specs.Prelude.{All, ◌≤◌, List}
+use Rattle.std.proofs.Common.{subst}
+use Rattle.hc_tops.proofs.Answering.{CanAnswer, applied_one-answers}
 use Rattle.hc_tops.proofs.Applying.{applied_one-leaves, batch_step, batch_end}
 use Rattle.hc_tops.proofs.member.Member.apply_batch.Goals as goal
 
@@ -14,6 +17,7 @@ entries-preserved c =
     let stored : Stored = get_or m.log m.applied (blank_of 0) in
     let in_log : m.applied < length m.log = omega arith in
     let there : slice_get m.log m.applied ≡ Some stored = slice_get-get_or m.log m.applied (blank_of 0) in_log in
+    let short : length stored.body ≤ 61440 = c.entries.invariant.bodies m.applied (blank_of 0) in_log in
     let at = c.in_ok-apply_next.ensures.state stored there in
     let leaves = applied_one-leaves c.args.setup.now m stored in
     let log = ap (λ (n : Member). n.log) at ∙ leaves.log in
@@ -24,6 +28,8 @@ entries-preserved c =
     record {
       there = omega (arith, size, applied);
       fits = omega (arith, size);
+      bodies = subst (λ (l : List Stored). All (λ (x : Stored). length x.body ≤ 61440) l) (sym log) c.entries.invariant.bodies;
+      answers = subst CanAnswer (sym at) (applied_one-answers c.args.setup.now m stored short c.entries.invariant.answers);
       member = step.0;
       replies = step.1;
     }

@@ -1,12 +1,17 @@
 -- What is left of the batch, from the member as it is now, leads to the same member and the same replies.
 use Rattle.std.proofs.Common.{◌≡◌, ◌^◌, ◌+◌, ◌-◌, ◌≤◌, ◌++◌, length, take, drop}
+use Rattle.std.specs.Prelude.{All}
+use Rattle.hc_tops.specs.declared.record.Stored.{Stored}
 use Rattle.hc_tops.specs.Turn.{applied_all, batch_of}
+use Rattle.hc_tops.proofs.Answering.{CanAnswer}
 use Rattle.hc_tops.proofs.member.Member.apply_batch.Given as goal
 
 abbrev pub invariant-entries : goal.invariant-entries
 invariant-entries l = record {
   there : l.self.applied + (l.done-end - l.done) ≤ length l.self.log;
   fits : length l.self.log ≤ 2 ^ 62;
+  bodies : All (λ (stored : Stored). length stored.body ≤ 61440) l.self.log;
+  answers : CanAnswer l.self;
   member : (applied_all l.setup l.self (take (l.done-end - l.done) (drop l.self.applied l.self.log))).member
       ≡ (applied_all l.setup l.initial.self (batch_of l.initial.self)).member;
   replies : l.sends.items ++ (applied_all l.setup l.self (take (l.done-end - l.done) (drop l.self.applied l.self.log))).sends

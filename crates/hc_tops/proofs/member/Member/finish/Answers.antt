@@ -15,6 +15,21 @@ apply_batch-requires-clause-fits c =
     let sound = subst (IsSound c.args.setup.now) (sym c.set_due.ensures) (sound-due c.args.setup.now c.args.self.now c.requires.sound) in
     sound.log_fits
 
+pub apply_batch-requires-clause-bodies : goal.apply_batch-requires-clause-bodies
+apply_batch-requires-clause-bodies c =
+    let sound = subst (IsSound c.args.setup.now) (sym c.set_due.ensures) (sound-due c.args.setup.now c.args.self.now c.requires.sound) in
+    sound.bodies
+
+pub apply_batch-requires-clause-values : goal.apply_batch-requires-clause-values
+apply_batch-requires-clause-values c =
+    let sound = subst (IsSound c.args.setup.now) (sym c.set_due.ensures) (sound-due c.args.setup.now c.args.self.now c.requires.sound) in
+    sound.values
+
+pub apply_batch-requires-clause-kept : goal.apply_batch-requires-clause-kept
+apply_batch-requires-clause-kept c =
+    let sound = subst (IsSound c.args.setup.now) (sym c.set_due.ensures) (sound-due c.args.setup.now c.args.self.now c.requires.sound) in
+    sound.replies
+
 pub report_own-requires-clause-sound : goal.report_own-requires-clause-sound
 report_own-requires-clause-sound c =
     let sound = subst (IsSound c.args.setup.now) (sym c.set_due.ensures) (sound-due c.args.setup.now c.args.self.now c.requires.sound) in

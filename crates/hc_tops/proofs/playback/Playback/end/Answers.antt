@@ -1,7 +1,7 @@
 -- The last text, and then what is still to be applied.
 use Rattle.std.proofs.Common.{◌+◌, ℕ, List, [], ◌∷◌, subst}
 use Rattle.hc_tops.specs.Playback.{Ran, StopsText}
-use Rattle.hc_tops.proofs.Endings.{StopsEnd-text, StopsEnd-closing}
+use Rattle.hc_tops.proofs.Endings.{Closes-all, StopsEnd-text, StopsEnd-closing}
 use Rattle.hc_tops.proofs.playback.Playback.end.Goals as goal
 
 pub returns-in-Err-clause-stops : goal.returns-in-Err-clause-stops
@@ -16,3 +16,9 @@ returns-in-Err-close-clause-stops g c =
     let ran = subst (λ (text : List ℕ). Ran p.setup p.member c.run_text.new.member (text ∷ []) (g.K.Sink.written c.args.sink.now) (g.K.Sink.written c.run_text.new.sink)) c.deref.ensures.value c.in_default.ensures.ran in
     StopsEnd-closing p.setup p.member c.run_text.new.member p.partial.items (g.K.Sink.written c.args.sink.now) (g.K.Sink.written c.run_text.new.sink) (g.K.Sink.written c.close.new.sink) ran
     (p.lines + 1) _ _ c.in-Err-close.status c.in-Err-close.ensures.stops c.in-Err-close.ensures.front
+
+pub returns-clause-closes : goal.returns-clause-closes
+returns-clause-closes g c =
+    let p = c.args.self.now in
+    let ran = subst (λ (text : List ℕ). Ran p.setup p.member c.run_text.new.member (text ∷ []) (g.K.Sink.written c.args.sink.now) (g.K.Sink.written c.run_text.new.sink)) c.deref.ensures.value c.in_default.ensures.ran in
+    Closes-all p.setup p.member c.run_text.new.member p.partial.items (g.K.Sink.written c.args.sink.now) (g.K.Sink.written c.run_text.new.sink) (g.K.Sink.written c.close.new.sink) ran c.in_default-close.ensures.whole

@@ -1,0 +1,322 @@
+-- What a message keeps of the parts that came, through every step of a history.
+use Rattle.std.proofs.Common.{◌≡◌, ◌<◌, ◌≤◌, ◌==◌, ◌||◌, inl, inr, ℕ, zero, suc, Bool, true, false, is_some, ltb, length, List, [], ◌∷◌, ◌++◌, Option, Some, None, get_or, set, unwrap_or, refl, ap, sym, ◌∙◌, subst, arith}
+use Rattle.std.specs.List.{Contains, find}
+use Rattle.std.proofs.lemmas.Bool.{cases_Bool, cases_eq, eq-eqb, eqb-true, ne_eqb, or_right}
+use Rattle.std.proofs.lemmas.List.{length-set}
+use Rattle.std.proofs.lemmas.Option.{same_Some}
+use Rattle.r2_header.specs.declared.header.Header.{Header}
+use Rattle.r2_frag.specs.declared.added.Added.{Added}
+use Rattle.r2_frag.specs.declared.added.Added.TheVariants.{More, Whole, Repeat, Bad, Dropped}
+use Rattle.r2_frag.specs.declared.key.Key.{Key}
+use Rattle.r2_frag.specs.declared.part_count.PartCount.{PartCount}
+use Rattle.r2_frag.specs.declared.part_count.PartCount.TheVariants.{Exactly, AtLeast}
+use Rattle.r2_frag.specs.declared.unfinished.Unfinished.{Unfinished}
+use Rattle.r2_frag.specs.Assembly.{added, begin, begun, both_counts, contradicts, count_said, go_on, is_begun, is_of, length_fits, message_of, number_of, piece_at, put, refusal, whole_body, with_part, without}
+use Rattle.r2_frag.specs.Bodies.{HasPartsOf, IsAllowed, IsPartOf}
+use Rattle.r2_frag.specs.Histories.{AddsPartsOf, Step, Adds, Forgets, messages_after, numbers_by, numbers_of, unless_given_up, with_number}
+use Rattle.r2_frag.specs.Keys.{same_key}
+use Rattle.r2_frag.specs.Laws.{IsRefusal}
+use Rattle.r2_frag.specs.Parts.{part_count}
+use Rattle.r2_frag.proofs.Finding.{AreDistinct, AreDistinct-push, AreDistinct-put, AreDistinct-without, find-push_other, find-push_same, find-put_other, find-put_same, find-without_other, find-without_same}
+use Rattle.r2_frag.proofs.KeptPieces.{piece_at-other, piece_at-same}
+use Rattle.r2_frag.proofs.OneBody.{HasPartsOf-begun, HasPartsOf-with_part, key-next}
+use Rattle.r2_frag.proofs.OnePart.{none-begun, places-begun}
+use Rattle.r2_frag.proofs.Outcomes.{outcome}
+use Rattle.r2_frag.proofs.SameKeys.{same_key-true}
+use Rattle.r2_frag.proofs.Taken.{count-begun}
+
+-- whether a number is among these
+abbrev pub has_number : ℕ → List ℕ → Bool
+has_number n [] = false
+has_number n (k ∷ ks) = (k == n) || has_number n ks
+
+-- which is to be one of them
+pub has_number-true : (n : ℕ) (ks : List ℕ) → has_number n ks ≡ true → Contains ks n
+has_number-true n [] e = cc
+has_number-true n (k ∷ ks) e =
+    elim (cases_Bool (k == n)) [
+      | inl t ↦ (0, omega arith, eqb-true k n t)
+      | inr f ↦
+          (let there = has_number-true n ks (rw f at e) in
+          let place : ℕ = there.0 in
+          let inside = there.1 in
+          (suc place, omega (arith, inside), there.2))
+    ]
+
+true-has_number_at : (n : ℕ) (ks : List ℕ) (place : ℕ) → place < length ks → get_or ks place n ≡ n → has_number n ks ≡ true
+true-has_number_at n [] place h e = absurd (omega arith)
+true-has_number_at n (k ∷ ks) zero h e = rw (eq-eqb k n e) refl
+true-has_number_at n (k ∷ ks) (suc place) h e = or_right (k == n) (has_number n ks) (true-has_number_at n ks place (omega arith) e)
+
+pub true-has_number : (n : ℕ) (ks : List ℕ) → Contains ks n → has_number n ks ≡ true
+true-has_number n ks c = true-has_number_at n ks c.0 c.1 c.2
+
+-- what a message holds, where parts of the body with these numbers came
+pub record Holds (body : List ℕ) (numbers : List ℕ) (m : Unfinished) : Type 0 where
+  pub parts : HasPartsOf body m
+  pub places : length m.pieces ≡ 64
+  pub kept : (n : ℕ) → is_some (piece_at n m.pieces) ≡ has_number n numbers
+  pub counted : has_number 0 numbers ≡ true → m.count ≡ Exactly (part_count body)
+
+-- and isn't whole
+pub record Keeps (body : List ℕ) (numbers : List ℕ) (m : Unfinished) : Type 0 where
+  pub holds : Holds body numbers m
+  pub waits : whole_body m.count m.pieces ≡ None
+
+-- a new message keeps nothing
+Keeps-begun : (body : List ℕ) (key : Key) → Keeps body [] (begun key)
+Keeps-begun body key =
+    record {
+      holds = record {
+        parts = HasPartsOf-begun body key;
+        places = places-begun key;
+        kept = λ n. rw (none-begun key n) refl;
+        counted = λ e. cc;
+      };
+      waits = rw (count-begun key) refl;
+    }
+
+-- a body has 64 parts at most
+count-within : (body : List ℕ) → length body ≤ 65536 → part_count body ≤ 64
+unfolding part_count
+count-within body h = omega arith
+
+-- the first part of a body counts its parts
+counted-first : (body : List ℕ) (h : Header) (payload : List ℕ) → IsPartOf body h payload → number_of h ≡ 0 → count_said h ≡ Exactly (part_count body)
+counted-first body h payload part e =
+    let first : h.first ≡ true = part.first ∙ eq-eqb (number_of h) 0 e in
+    rw first (ap Exactly (part.counted first))
+
+-- an exact count stays, and one that is said is taken
+both-said : (a : PartCount) (n : ℕ) → IsAllowed a n → both_counts a (Exactly n) ≡ Exactly n
+both-said (Exactly a) n e = ap Exactly e
+both-said (AtLeast a) n e = refl
+
+-- a message with one part more holds it besides
+pub Holds-next : (body : List ℕ) (numbers : List ℕ) (m : Unfinished) (h : Header) (payload : List ℕ) → length body ≤ 65536 → Holds body numbers m → IsPartOf body h payload → Holds body (number_of h ∷ numbers) (with_part m h payload)
+unfolding with_part
+Holds-next body numbers m h payload short k part =
+    let less = part.number in
+    let within = count-within body short in
+    let inside : number_of h < length m.pieces = omega (arith, less, within, k.places) in
+    record {
+      parts = HasPartsOf-with_part body m h payload k.parts part;
+      places = length-set m.pieces (number_of h) (Some payload) ∙ k.places;
+      kept = λ n.
+          elim (cases_eq (number_of h) n) [
+            | inl same ↦
+                (let here = piece_at-same (number_of h) m.pieces (Some payload) inside in
+                let there : piece_at n (set m.pieces (number_of h) (Some payload)) ≡ Some payload = ap (λ (i : ℕ). piece_at i (set m.pieces (number_of h) (Some payload))) (sym same) ∙ here in
+                rw (there, eq-eqb (number_of h) n same) refl)
+            | inr other ↦
+                (let there = piece_at-other n (number_of h) m.pieces (Some payload) (λ (e : n ≡ number_of h). other (sym e)) in
+                rw (there, ne_eqb (number_of h) n other) (k.kept n))
+          ];
+      counted = λ e.
+          elim (cases_eq (number_of h) 0) [
+            | inl first ↦ rw (counted-first body h payload part first) (both-said m.count (part_count body) k.parts.count)
+            | inr later ↦
+                (let before : has_number 0 numbers ≡ true = rw (ne_eqb (number_of h) 0 later) at e in
+                rw (k.counted before) refl)
+          ];
+    }
+
+-- where the same message is found, the key's message is the same
+message_of-same : (key : Key) (a b : List Unfinished) → find (is_of key) a ≡ find (is_of key) b → message_of key a ≡ message_of key b
+unfolding message_of
+message_of-same key a b e = ap (λ (o : Option Unfinished). unwrap_or o (begun key)) e
+
+message_of-found : (key : Key) (messages : List Unfinished) (m : Unfinished) → find (is_of key) messages ≡ Some m → message_of key messages ≡ m
+unfolding message_of
+message_of-found key messages m e = rw e refl
+
+message_of-none : (key : Key) (messages : List Unfinished) → find (is_of key) messages ≡ None → message_of key messages ≡ begun key
+unfolding message_of
+message_of-none key messages e = rw e refl
+
+-- the messages are distinct, and that of the key keeps the parts of the body with these numbers
+pub record Gathers (body : List ℕ) (key : Key) (numbers : List ℕ) (messages : List Unfinished) : Type 0 where
+  pub distinct : AreDistinct messages
+  pub keeps : Keeps body numbers (message_of key messages)
+
+-- a message that goes on under some key, which is this one where it keeps the numbers and one more
+record GoesOn (body : List ℕ) (key other : Key) (n : ℕ) (numbers : List ℕ) (next : Unfinished) : Type 0 where
+  owner : next.key ≡ other
+  more : same_key other key ≡ true → Keeps body (n ∷ numbers) next
+
+-- the key of a message that goes on, as the test sees it
+owner-test : (key other : Key) (next : Unfinished) (b : Bool) → next.key ≡ other → same_key other key ≡ b → same_key next.key key ≡ b
+owner-test key other next b e t = ap (λ (k : Key). same_key k key) e ∙ t
+
+-- a message that is put among the others
+after_put : (body : List ℕ) (key other : Key) (n : ℕ) (numbers : List ℕ) (next : Unfinished) (messages : List Unfinished) → Gathers body key numbers messages → GoesOn body key other n numbers next → is_some (find (is_of next.key) messages) ≡ true → Gathers body key (with_number key other n numbers) (put next messages)
+after_put body key other n numbers next messages g o begun' =
+    elim (cases_Bool (same_key other key)) [
+      | inl t ↦
+          (let same : next.key ≡ key = o.owner ∙ same_key-true other key t in
+          let there : is_some (find (is_of key) messages) ≡ true = subst (λ (k : Key). is_some (find (is_of k) messages) ≡ true) same begun' in
+          record {
+            distinct = AreDistinct-put next messages g.distinct;
+            keeps = rw (t, message_of-found key (put next messages) next (find-put_same key next messages same there)) (o.more t);
+          })
+      | inr f ↦
+          (let apart = owner-test key other next false o.owner f in
+          record {
+            distinct = AreDistinct-put next messages g.distinct;
+            keeps = rw (f, message_of-same key (put next messages) messages (find-put_other key next messages apart)) g.keeps;
+          })
+    ]
+
+-- a message that is put behind the others
+after_push : (body : List ℕ) (key other : Key) (n : ℕ) (numbers : List ℕ) (next : Unfinished) (messages : List Unfinished) → Gathers body key numbers messages → GoesOn body key other n numbers next → find (is_of next.key) messages ≡ None → Gathers body key (with_number key other n numbers) (messages ++ next ∷ [])
+after_push body key other n numbers next messages g o none =
+    elim (cases_Bool (same_key other key)) [
+      | inl t ↦
+          (let same : next.key ≡ key = o.owner ∙ same_key-true other key t in
+          let absent : find (is_of key) messages ≡ None = subst (λ (k : Key). find (is_of k) messages ≡ None) same none in
+          let has = owner-test key other next true o.owner t in
+          record {
+            distinct = AreDistinct-push messages next none g.distinct;
+            keeps = rw (t, message_of-found key (messages ++ next ∷ []) next (find-push_same (is_of key) messages next has absent)) (o.more t);
+          })
+      | inr f ↦
+          (let apart = owner-test key other next false o.owner f in
+          record {
+            distinct = AreDistinct-push messages next none g.distinct;
+            keeps = rw (f, message_of-same key (messages ++ next ∷ []) messages (find-push_other (is_of key) messages next apart)) g.keeps;
+          })
+    ]
+
+-- the message begun first leaves
+after_oldest : (body : List ℕ) (key : Key) (numbers : List ℕ) (m : Unfinished) (rest : List Unfinished) → Gathers body key numbers (m ∷ rest) → Gathers body key (unless_given_up key m.key numbers) rest
+after_oldest body key numbers m rest g =
+    elim (cases_Bool (same_key m.key key)) [
+      | inl t ↦
+          (let same = same_key-true m.key key t in
+          let gone : find (is_of key) rest ≡ None = subst (λ (k : Key). find (is_of k) rest ≡ None) same g.distinct.0 in
+          record { distinct = g.distinct.1; keeps = rw (t, message_of-none key rest gone) (Keeps-begun body key) })
+      | inr f ↦
+          (let there : find (is_of key) rest ≡ find (is_of key) (m ∷ rest) = rw f refl in
+          record { distinct = g.distinct.1; keeps = rw (f, message_of-same key rest (m ∷ rest) there) g.keeps })
+    ]
+
+-- and the key of one that begins has none, so the numbers that are given up aren't its own
+goes_on-oldest : (body : List ℕ) (key other : Key) (n : ℕ) (numbers : List ℕ) (next m : Unfinished) → GoesOn body key other n numbers next → is_of next.key m ≡ false → GoesOn body key other n (unless_given_up key m.key numbers) next
+goes_on-oldest body key other n numbers next m o apart =
+    record {
+      owner = o.owner;
+      more = λ t.
+          (let same : next.key ≡ key = o.owner ∙ same_key-true other key t in
+          let stays : same_key m.key key ≡ false = subst (λ (k : Key). same_key m.key k ≡ false) same apart in
+          rw stays (o.more t));
+    }
+
+-- what is gathered behind an answer
+abbrev GathersBy : List ℕ → Key → Key → ℕ → List ℕ → Added × List Unfinished → Type 0
+GathersBy body key other n numbers r = Gathers body key (numbers_by r.0 key other n numbers) r.1
+
+-- a message that begins
+after_begin : (body : List ℕ) (key other : Key) (n : ℕ) (numbers : List ℕ) (next : Unfinished) (messages : List Unfinished) → Gathers body key numbers messages → GoesOn body key other n numbers next → find (is_of next.key) messages ≡ None → GathersBy body key other n numbers (begin next messages)
+unfolding begin
+after_begin body key other n numbers next [] g o none = after_push body key other n numbers next [] g o none
+after_begin body key other n numbers next (m ∷ rest) g o none =
+    elim (cases_Bool (ltb (length (m ∷ rest)) 256)) [
+      | inl room ↦ rw room (after_push body key other n numbers next (m ∷ rest) g o none)
+      | inr full ↦
+          elim (cases_Bool (is_of next.key m)) [
+            | inl t ↦ (let some = rw t at none in cc)
+            | inr f ↦
+                (let tail : find (is_of next.key) rest ≡ None = rw f at none in
+                let left = after_oldest body key numbers m rest g in
+                let on = goes_on-oldest body key other n numbers next m o f in
+                rw full (after_push body key other n (unless_given_up key m.key numbers) next rest left on tail))
+          ]
+    ]
+
+-- what isn't some is none
+none-found : {X : Type 0} (o : Option X) → is_some o ≡ false → o ≡ None
+none-found (Some x) e = cc
+none-found None e = refl
+
+-- a message that goes on
+after_go_on : (body : List ℕ) (key other : Key) (n : ℕ) (numbers : List ℕ) (next : Unfinished) (messages : List Unfinished) → Gathers body key numbers messages → GoesOn body key other n numbers next → GathersBy body key other n numbers (go_on next messages)
+unfolding go_on is_begun
+after_go_on body key other n numbers next messages g o =
+    elim (cases_Bool (is_some (find (is_of next.key) messages))) [
+      | inl t ↦ rw t (after_put body key other n numbers next messages g o t)
+      | inr f ↦ rw f (after_begin body key other n numbers next messages g o (none-found (find (is_of next.key) messages) f))
+    ]
+
+-- a message that is forgotten, or whole
+after_without : (body : List ℕ) (key other owner : Key) (numbers : List ℕ) (messages : List Unfinished) → Gathers body key numbers messages → owner ≡ other → Gathers body key (unless_given_up key other numbers) (without owner messages)
+after_without body key other owner numbers messages g e =
+    elim (cases_Bool (same_key other key)) [
+      | inl t ↦
+          (let same : owner ≡ key = e ∙ same_key-true other key t in
+          let gone : find (is_of key) (without owner messages) ≡ None = subst (λ (k : Key). find (is_of key) (without k messages) ≡ None) (sym same) (find-without_same key messages g.distinct) in
+          record {
+            distinct = AreDistinct-without owner messages g.distinct;
+            keeps = rw (t, message_of-none key (without owner messages) gone) (Keeps-begun body key);
+          })
+      | inr f ↦
+          (let apart : same_key owner key ≡ false = ap (λ (k : Key). same_key k key) e ∙ f in
+          record {
+            distinct = AreDistinct-without owner messages g.distinct;
+            keeps = rw (f, message_of-same key (without owner messages) messages (find-without_other key owner messages apart)) g.keeps;
+          })
+    ]
+
+-- a refusal changes no numbers
+refused-numbers : (answer : Added) (key other : Key) (n : ℕ) (numbers : List ℕ) → IsRefusal answer → numbers_by answer key other n numbers ≡ numbers
+refused-numbers Repeat key other n numbers i = refl
+refused-numbers (Bad why) key other n numbers i = refl
+refused-numbers More key other n numbers i = absurd i
+refused-numbers (Whole b) key other n numbers i = absurd i
+refused-numbers (Dropped k) key other n numbers i = absurd i
+
+-- each refusal is one
+refusal-is : (count : PartCount) (is_kept : Bool) (h : Header) (payload : List ℕ) (answer : Added) → refusal count is_kept h payload ≡ Some answer → IsRefusal answer
+unfolding refusal
+refusal-is count is_kept h payload answer e =
+    elim (cases_Bool (length_fits h payload)) [
+      | inr short ↦ (let same : Bad _ ≡ answer = same_Some _ _ (rw short at e) in subst IsRefusal same tt)
+      | inl fits ↦
+          elim (cases_Bool (contradicts count (count_said h))) [
+            | inl against ↦ (let same : Bad _ ≡ answer = same_Some _ _ (rw (fits, against) at e) in subst IsRefusal same tt)
+            | inr counts ↦
+                elim (cases_Bool is_kept) [
+                  | inl kept ↦ (let same : Repeat ≡ answer = same_Some _ _ (rw (fits, counts, kept) at e) in subst IsRefusal same tt)
+                  | inr new ↦ (let none = rw (fits, counts, new) at e in cc)
+                ]
+          ]
+    ]
+
+-- a part that is added, under this key or another
+after_added : (body : List ℕ) (key other : Key) (numbers : List ℕ) (messages : List Unfinished) (h : Header) (payload : List ℕ) → length body ≤ 65536 → Gathers body key numbers messages → (other ≡ key → IsPartOf body h payload) → GathersBy body key other (number_of h) numbers (added messages other h payload)
+after_added body key other numbers messages h payload short g part =
+    let n : ℕ = number_of h in
+    let next : Unfinished = with_part (message_of other messages) h payload in
+    let owner : next.key ≡ other = key-next other messages h payload in
+    outcome (GathersBy body key other n numbers) messages other h payload
+    (λ answer e.
+    let none = refused-numbers answer key other n numbers (refusal-is (message_of other messages).count (is_some (piece_at n (message_of other messages).pieces)) h payload answer e) in
+    subst (λ (ns : List ℕ). Gathers body key ns messages) (sym none) g)
+    (λ b good e. after_without body key other next.key numbers messages g owner)
+    (λ good e. after_go_on body key other n numbers next messages g (record {
+      owner = owner;
+      more = λ t.
+          (let same = same_key-true other key t in
+          let mine : message_of other messages ≡ message_of key messages = ap (λ (k : Key). message_of k messages) same in
+          let mine_keeps : Keeps body numbers (message_of other messages) = subst (Keeps body numbers) (sym mine) g.keeps in
+          record { holds = Holds-next body numbers (message_of other messages) h payload short mine_keeps.holds (part same); waits = e });
+    }))
+
+-- what is gathered behind a history
+pub gathers-after : (body : List ℕ) (key : Key) (steps : List Step) → length body ≤ 65536 → AddsPartsOf body key steps → Gathers body key (numbers_of key steps) (messages_after steps)
+unfolding messages_after numbers_of
+gathers-after body key [] short parts =
+    record { distinct = tt; keeps = rw (message_of-none key [] refl) (Keeps-begun body key) }
+gathers-after body key (Adds other h payload ∷ earlier) short parts =
+    after_added body key other (numbers_of key earlier) (messages_after earlier) h payload short (gathers-after body key earlier short parts.1) parts.0
+gathers-after body key (Forgets other ∷ earlier) short parts =
+    after_without body key other other (numbers_of key earlier) (messages_after earlier) (gathers-after body key earlier short parts) refl

@@ -1,0 +1,17 @@
+pub mod BodyPieces
+pub mod Bounds
+pub mod Completing
+pub mod Examples
+pub mod Finding
+pub mod Gathering
+pub mod Headers
+pub mod KeptPieces
+pub mod Newest
+pub mod OneBody
+pub mod OnePart
+pub mod Outcomes
+pub mod PartLaws
+pub mod Places
+pub mod SameKeys
+pub mod Taken
+pub mod Sizes

@@ -1,0 +1,111 @@
+-- What holds of any messages, any parts and any history.
+use Rattle.std.specs.Prelude.{◌≡◌, ℕ, ◌<◌, ◌≤◌, ◌↔◌, List, [], ◌∷◌, ◌++◌, length, Some, Ok, drop}
+use Rattle.std.specs.List.{All, Contains, slice_get}
+use Rattle.r2_header.specs.declared.header.Header.{Header}
+use Rattle.r2_header.specs.Header.{IsValid, spelling}
+use Rattle.r2_header.specs.Laws.{FitsFields}
+use Rattle.r2_header.specs.Reading.{header_at}
+use Rattle.r2_frag.specs.declared.added.Added.{Added}
+use Rattle.r2_frag.specs.declared.added.Added.TheVariants.{Bad, Dropped, More, Repeat, Whole}
+use Rattle.r2_frag.specs.declared.key.Key.{Key}
+use Rattle.r2_frag.specs.declared.part_count.PartCount.TheVariants.{Exactly}
+use Rattle.r2_frag.specs.declared.part_spec.PartSpec.{PartSpec}
+use Rattle.r2_frag.specs.declared.unfinished.Unfinished.{Unfinished}
+use Rattle.r2_frag.specs.Assembly.{added, count_said, number_of, without}
+use Rattle.r2_frag.specs.Bodies.{GivesAtOnce, GivesBody, HasOneBody, IsPartOf, IsUnfinished, KeepsBody}
+use Rattle.r2_frag.specs.Histories.{AddsPartsOf, HasEach, Step, answer_after, numbers_of}
+use Rattle.r2_frag.specs.Keys.{client_of, key_at, sender_of}
+use Rattle.r2_frag.specs.Parts.{IsSendable, carried, part_count, part_datagram, part_header, parts_of, piece}
+
+-- where a key has parts of one body only and a part of that body is added, a whole body is that one, and each message that
+-- is left stood before or has parts of that body only
+abbrev pub OneBody : Type 0
+OneBody =
+    (body : List ℕ) (messages : List Unfinished) (key : Key) (h : Header) (payload : List ℕ)
+    → HasOneBody body key messages → IsPartOf body h payload → KeepsBody body key messages (added messages key h payload)
+
+-- a message of one part is whole at once or isn't taken, and no message among the unfinished changes
+abbrev pub OnePart : Type 0
+OnePart =
+    (messages : List Unfinished) (key : Key) (h : Header) (payload : List ℕ)
+    → All IsUnfinished messages → count_said h ≡ Exactly 1
+    → GivesAtOnce payload (added messages key h payload).0 × ((added messages key h payload).1 ≡ messages)
+
+-- the answers to parts that aren't taken, or are kept already
+abbrev pub IsRefusal : Added → Type 0
+IsRefusal (Bad why) = Unit {0}
+IsRefusal Repeat = Unit {0}
+IsRefusal More = ⊥
+IsRefusal (Whole body) = ⊥
+IsRefusal (Dropped key) = ⊥
+
+-- with such an answer nothing changes
+abbrev pub RefusedChangesNothing : Type 0
+RefusedChangesNothing =
+    (messages : List Unfinished) (key : Key) (h : Header) (payload : List ℕ)
+    → IsRefusal (added messages key h payload).0 → (added messages key h payload).1 ≡ messages
+
+-- no more than 256 messages are unfinished behind any part, where no more were
+abbrev pub MostUnfinished : Type 0
+MostUnfinished =
+    (messages : List Unfinished) (key : Key) (h : Header) (payload : List ℕ)
+    → length messages ≤ 256 → length (added messages key h payload).1 ≤ 256
+
+-- what is unfinished stays so, and what is begun is so
+abbrev pub UnfinishedStay : Type 0
+UnfinishedStay =
+    (messages : List Unfinished) (key : Key) (h : Header) (payload : List ℕ)
+    → All IsUnfinished messages → All IsUnfinished (added messages key h payload).1
+
+-- and so where a message is forgotten
+abbrev pub ForgettingLeavesUnfinished : Type 0
+ForgettingLeavesUnfinished =
+    (messages : List Unfinished) (key : Key) → All IsUnfinished messages → All IsUnfinished (without key messages)
+
+-- where all parts added under a key are parts of one body, none of them is bad; the answer is that body exactly where the
+-- part and those that came since the key last began are all its parts; and it is Repeat exactly where the part came since then
+pub record Completes (body : List ℕ) (key : Key) (earlier : List Step) (h : Header) (payload : List ℕ) : Type 0 where
+  pub good : GivesBody body (answer_after earlier key h payload)
+  pub whole : (answer_after earlier key h payload ≡ Whole body) ↔ HasEach (part_count body) (number_of h ∷ numbers_of key earlier)
+  pub repeat : (answer_after earlier key h payload ≡ Repeat) ↔ Contains (numbers_of key earlier) (number_of h)
+
+abbrev pub WholeAtTheLastPart : Type 0
+WholeAtTheLastPart =
+    (body : List ℕ) (key : Key) (earlier : List Step) (h : Header) (payload : List ℕ)
+    → length body ≤ 65536 → AddsPartsOf body key earlier → IsPartOf body h payload → Completes body key earlier h payload
+
+-- the key is the one that datagrams between these addresses have
+pub record IsKeyBetween (spec : PartSpec) : Type 0 where
+  pub client : client_of (carried spec) spec.key.class spec.from spec.to ≡ spec.key.rid.client
+  pub from : sender_of spec.key.class spec.key.rid.client spec.from ≡ spec.key.from
+
+-- the datagram of a part stands at its place among those of the body: it goes between the addresses asked for, its bytes
+-- are those of a valid header and a piece and read as these, and header and piece are a part of the body
+pub record IsPart (spec : PartSpec) (body : List ℕ) (n : ℕ) : Type 0 where
+  pub placed : slice_get (parts_of spec body) n ≡ Some (part_datagram spec body n)
+  pub between : ((part_datagram spec body n).from ≡ spec.from) × ((part_datagram spec body n).to ≡ spec.to)
+  pub bytes : (part_datagram spec body n).bytes ≡ spelling (part_header spec (part_count body) n) ++ piece body n
+  pub valid : IsValid (part_header spec (part_count body) n)
+  pub read :
+      FitsFields (part_header spec (part_count body) n)
+      → header_at (part_datagram spec body n).bytes ≡ Ok (part_header spec (part_count body) n, length (spelling (part_header spec (part_count body) n)))
+  pub payload :
+      drop (length (spelling (part_header spec (part_count body) n))) (part_datagram spec body n).bytes ≡ piece body n
+  pub part : IsPartOf body (part_header spec (part_count body) n) (piece body n)
+  pub number : number_of (part_header spec (part_count body) n) ≡ n
+
+-- each piece of a body is in one datagram, and there are no others
+abbrev pub PartsAreOfTheBody : Type 0
+PartsAreOfTheBody =
+    (spec : PartSpec) (body : List ℕ)
+    → IsSendable spec body → (length (parts_of spec body) ≡ part_count body) × ((n : ℕ) → n < part_count body → IsPart spec body n)
+
+abbrev pub PartsHaveTheKey : Type 0
+PartsHaveTheKey =
+    (spec : PartSpec) (count n : ℕ) → IsKeyBetween spec → key_at spec.from spec.to (part_header spec count n) ≡ Some spec.key
+
+-- a body of at most 1,024 bytes is one part, with the body as its payload
+abbrev pub ShortBodyIsOnePart : Type 0
+ShortBodyIsOnePart =
+    (spec : PartSpec) (body : List ℕ) → length body ≤ 1024
+    → parts_of spec body ≡ record { from = spec.from; to = spec.to; bytes = spelling (part_header spec 1 0) ++ body } ∷ []
