@@ -1,0 +1,5 @@
+use Rattle.hc_world.proofs.Answers.{steps_answer}
+use Rattle.hc_world.proofs.laws.steps_answer.Goals as goal
+
+pub returns : goal.returns
+returns c = steps_answer

@@ -1,0 +1,15 @@
+pub mod Majority
+pub mod Log
+pub mod Message
+pub mod World
+pub mod Requests
+pub mod Rules
+pub mod Conditions
+pub mod Kept
+pub mod Parts
+pub mod Runs
+pub mod Agreed
+pub mod Replies
+pub mod Loose
+pub mod Examples
+pub mod Laws
