@@ -3,15 +3,15 @@ use Rattle.std.proofs.Common.{◌≡◌, ℕ, zero, suc, ◌+◌, ◌<◌, ◌�
 use Rattle.std.proofs.lemmas.Bool.{eqb-true, true≢false}
 use Rattle.r2_base.specs.declared.entry.Entry.{Entry}
 use Rattle.hc_world.specs.Log.{In, Share, blank_of, entry_at, term_at}
-use Rattle.hc_world.specs.Message.{Order, Passed}
-use Rattle.hc_world.specs.Rules.{Rule, Rise, Stand, Win, OrderRequest, SendOrder, Confirm, Take, Acknowledge, CommitByCount, CommitByOrder, CommitByAggregate, Aggregate, Apply, Yield, NoteAck, Follow, NoteOrder, Collect, Forget, Crash, after, ack_of, next_passed, entry_of, order_of, taken}
+use Rattle.hc_world.specs.Message.{Order, Passed, Report}
+use Rattle.hc_world.specs.Rules.{Rule, Rise, Stand, Win, OrderRequest, SendOrder, Confirm, Take, Acknowledge, CommitByCount, CommitByOrder, CommitByAggregate, Aggregate, Apply, Yield, NoteReport, NoteOwnReport, NoteAck, Follow, NoteOrder, Collect, Forget, Crash, after, ack_of, next_passed, entry_of, order_of, taken}
 use Rattle.hc_world.specs.Conditions.{Allowed}
 use Rattle.hc_world.specs.World.{World, Leader, Committed, IsCommittedIn, acked, backs, put, told}
 use Rattle.hc_world.specs.Kept.{Kept}
 use Rattle.std.proofs.lemmas.Bool.{leb-true}
 use Rattle.std.proofs.lemmas.Bool.Decides.{nat_tests}
 use Rattle.hc_world.specs.Conditions.{Conflicts, MayAggregate, MayCommit}
-use Rattle.hc_world.specs.Kept.{IsCommitted, CommitsAreCommitted, OrdersTellCommitted, AggregatesAreCommitted, WasCommitted, PassedWasCommitted, AppliedIsCommitted, AppliedWasPassed, ReachedWasAcknowledged, AggregatorWasTold, AggregatorFollowsAnOrder}
+use Rattle.hc_world.specs.Kept.{IsCommitted, CommitsAreCommitted, OrdersTellCommitted, AggregatesAreCommitted, WasCommitted, PassedWasCommitted, AppliedIsCommitted, AppliedWasPassed, ReachedWasAcknowledged, HasApplied, AcksTellApplied, WasTold, IsItsOwn, WasLearnt, ReportsWereLearnt, AggregatorWasTold, AggregatorFollowsAnOrder}
 use Rattle.hc_world.proofs.Acks.{in_acked, backs_cases, backs_from, term_shared}
 use Rattle.hc_world.proofs.Grows.{grows}
 use Rattle.hc_world.proofs.LaterLeaders.{cases_le}
@@ -187,7 +187,7 @@ module _ (w : World) (k : Kept w) where
             committed = k.commitments.aggregates_are_committed y a.sent;
             low = a.told;
             old = omega (arith, a.current);
-            same = subst (λ (t : ℕ). Share m (w.log x) (w.book t)) (sym a.current) (share_less m (w.matched x) (w.log x) (w.book (w.term x)) a.within (k.acknowledgements.matched_is_the_leaders x));
+            same = subst (λ (t : ℕ). Share m (w.log x) (w.book t)) (sym a.current) (share_less m (w.matched x) (w.log x) (w.book (w.term x)) (omega (arith, a.matched)) (k.acknowledgements.matched_is_the_leaders x));
           }
   commits_are_committed (Crash x) a = split x (rw (self x) (λ h. absurd (omega (arith, h)))) (λ u e. rw e (k.commitments.commits_are_committed u))
   commits_are_committed r a = k.commitments.commits_are_committed
@@ -351,6 +351,47 @@ module _ (w : World) (k : Kept w) where
       index : y.index ≤ acked w.acks (w.term x) y.member
       index = subst (λ (t : ℕ). y.index ≤ acked w.acks t y.member) a.current (in_acked y w.acks a.sent)
   reached_was_acknowledged r a = k.commitments.reached_was_acknowledged
+
+  passed_grows : (r : Rule) → Allowed w r → (v n : ℕ) → HasApplied w.passed v n → HasApplied (after w r).passed v n
+  passed_grows r a v n h j l =
+      let was = h j l in record { entry = was.entry; done = (grows w k r a).passed (record { member = v; index = suc j; entry = was.entry }) was.done }
+
+  -- a member applied as much as it says
+  has_applied : (v : ℕ) → HasApplied w.passed v (w.applied v)
+  has_applied v j l = record { entry = entry_at (w.log v) (suc j); done = k.commitments.applied_was_passed v j l }
+
+  pub acks_tell_applied : (r : Rule) → Allowed w r → AcksTellApplied (after w r)
+  acks_tell_applied (Acknowledge x m) a = in_more w.acks (has_applied x) k.commitments.acks_tell_applied
+  acks_tell_applied (Apply x) a = λ y h. passed_grows (Apply x) a y.member y.applied (k.commitments.acks_tell_applied y h)
+  acks_tell_applied r a = k.commitments.acks_tell_applied
+
+  still_learnt : (r : Rule) → Allowed w r → (y : Report) → In y w.reports → WasLearnt ((after w r).winner y.term) (after w r).acks (after w r).passed y
+  still_learnt r a y h =
+      let was = k.commitments.reports_were_learnt y h in
+      record { won = (grows w k r a).winners y.term y.leader was.won; told = by was.told }
+    where
+      by : WasTold w.acks y ⊎ IsItsOwn w.passed y → WasTold (after w r).acks y ⊎ IsItsOwn (after w r).passed y
+      by (inl t) = inl (record { ack = t.ack; sent = (grows w k r a).acks t.ack t.sent; term_is = t.term_is; member_is = t.member_is; applied_is = t.applied_is })
+      by (inr o) = inr (record { own = o.own; applied = passed_grows r a y.leader y.index o.applied })
+
+  pub reports_were_learnt : (r : Rule) → Allowed w r → ReportsWereLearnt (after w r)
+  reports_were_learnt (Win x) a = still_learnt (Win x) a
+  reports_were_learnt (Acknowledge x m) a = still_learnt (Acknowledge x m) a
+  reports_were_learnt (Apply x) a = still_learnt (Apply x) a
+  reports_were_learnt (NoteReport x y) a =
+      in_more
+      w.reports
+      (record {
+        won = (k.winners.leaders_have_won x a.leads.leads).won;
+        told = inl (record { ack = y; sent = a.sent; term_is = omega (arith, a.of_term); member_is = refl; applied_is = refl });
+      })
+      k.commitments.reports_were_learnt
+  reports_were_learnt (NoteOwnReport x) a =
+      in_more
+      w.reports
+      (record { won = (k.winners.leaders_have_won x a.leads).won; told = inr (record { own = refl; applied = has_applied x }) })
+      k.commitments.reports_were_learnt
+  reports_were_learnt r a = k.commitments.reports_were_learnt
 
   -- what a leader holds to be reached is within its log
   pub reached_within : (v p : ℕ) → w.role v ≡ Leader → w.reached v p ≤ length (w.log v)

@@ -208,7 +208,7 @@ counting_anywhere_divides =
           }
           ▸ record { acts = record { member = omega arith; runs = refl }; follows = λ e. cc; within = omega arith }
           ▸ record { sent = inl refl; here = omega arith; backed = omega arith }
-          ▸ record { acts = record { member = omega arith; runs = refl }; sent = inl refl; current = refl; told = omega arith; within = omega arith }
+          ▸ record { acts = record { member = omega arith; runs = refl }; sent = inl refl; current = refl; told = omega arith; matched = omega arith }
           ▸ record { acts = record { member = omega arith; runs = refl }; due = omega arith }
           ▸ record { acts = record { member = omega arith; runs = refl }; higher = omega arith }
           ▸ record { acts = record { member = omega arith; runs = refl }; follows = λ e. cc }
@@ -393,20 +393,27 @@ requests_are_answered =
           ▸ record { sent = inl refl; current = refl }
           ▸ record { sent = inl refl; current = refl }
           ▸ record { sent = inl refl; own = omega arith; backed = omega arith }
-          ▸ record { acts = record { member = omega arith; runs = refl }; sent = inl refl; current = refl; told = omega arith; within = omega arith }
+          ▸ record { acts = record { member = omega arith; runs = refl }; sent = inl refl; current = refl; told = omega arith; matched = omega arith }
           ▸ record { acts = record { member = omega arith; runs = refl }; due = omega arith }
           ▸ record { acts = record { member = omega arith; runs = refl }; due = omega arith }
           ▸ record { acts = record { member = omega arith; runs = refl }; applied = omega arith; replier = refl; right = right }
           ▸ record { acts = record { member = omega arith; runs = refl }; follows = λ e. cc; within = omega arith }
           ▸ record { leads = record { acts = record { member = omega arith; runs = refl }; leads = refl }; sent = inl refl; current = refl }
-          ▸ record { leads = record { acts = record { member = omega arith; runs = refl }; leads = refl }; sent = inl refl; current = refl }
+          ▸ record { leads = record { acts = record { member = omega arith; runs = refl }; leads = refl }; sent = inl refl; of_term = omega arith }
           ▸ tt;
       request = the_request;
       replier = 1;
       payload = payload_of 2 3 [];
+      leads = (refl, refl);
+      other = λ e. cc;
       ordered = refl;
+      told = inl refl;
+      learnt = inr (inr (inr (inr (inr (inr (inr (inl refl)))))));
+      applied = inl refl;
+      answers = inr (inr (inr (inr (inr (inr (inr (inr (inr (inr (inl refl))))))))));
       stands = refl;
       answered = refl;
+      still_leads = (refl, refl);
       reported = refl;
     }
 
@@ -457,13 +464,13 @@ every_rule_is_made =
           ▸ record { sent = inl refl; current = refl }
           ▸ record { sent = inl refl; current = refl }
           ▸ record { sent = inl refl; own = omega arith; backed = omega arith }
-          ▸ record { acts = record { member = omega arith; runs = refl }; sent = inl refl; current = refl; told = omega arith; within = omega arith }
+          ▸ record { acts = record { member = omega arith; runs = refl }; sent = inl refl; current = refl; told = omega arith; matched = omega arith }
           ▸ record { acts = record { member = omega arith; runs = refl }; due = omega arith }
           ▸ record { acts = record { member = omega arith; runs = refl }; due = omega arith }
           ▸ record { acts = record { member = omega arith; runs = refl }; applied = omega arith; replier = refl; right = right }
           ▸ record { acts = record { member = omega arith; runs = refl }; follows = λ e. cc; within = omega arith }
           ▸ record { leads = record { acts = record { member = omega arith; runs = refl }; leads = refl }; sent = inl refl; current = refl }
-          ▸ record { leads = record { acts = record { member = omega arith; runs = refl }; leads = refl }; sent = inl refl; current = refl }
+          ▸ record { leads = record { acts = record { member = omega arith; runs = refl }; leads = refl }; sent = inl refl; of_term = omega arith }
           ▸ record { hears = record { acts = record { member = omega arith; runs = refl }; follows = λ e. cc; sent = inl refl; current = refl }; fits = record { count = omega arith; within = omega arith; previous = refl; entries = λ j h. same_terms j h } }
           ▸ record { acts = record { member = omega arith; runs = refl }; sent = inl refl; passed = inl refl; request = refl; replier = refl }
           ▸ record { leads = record { acts = record { member = omega arith; runs = refl }; leads = refl }; own = omega arith; within = omega arith; backed = omega arith }

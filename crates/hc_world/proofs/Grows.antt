@@ -1,9 +1,10 @@
 -- What only grows with each step.
 use Rattle.std.proofs.Common.{◌≡◌, ℕ, suc, ◌≤◌, inr, List, [], ◌∷◌, ◌++◌, length, Option, Some, None, refl, sym, ap, ◌∙◌, arith, append-nil}
 use Rattle.std.proofs.lemmas.Option.{same_Some, none-some}
+use Rattle.r2_base.specs.declared.rid.Rid.{Rid}
 use Rattle.hc_world.specs.Log.{In, Share}
-use Rattle.hc_world.specs.Message.{VoteRequest, Vote, Order, Ack, AggregateCommit, Request, Grant, Report, Passed, Reply}
-use Rattle.hc_world.specs.Rules.{Rule, Rise, Stand, AskVotes, GrantVote, SendVote, Win, OrderRequest, SendOrder, Acknowledge, Aggregate, Apply, Answer, AnswerAgain, NoteReport, NoteOwnReport, SendRequest, after, ack_of, grant_of}
+use Rattle.hc_world.specs.Message.{VoteRequest, Vote, Order, Ack, AggregateCommit, Refusal, Nack, Request, Grant, Report, Passed, Reply}
+use Rattle.hc_world.specs.Rules.{Rule, Rise, Stand, AskVotes, GrantVote, SendVote, Win, OrderRequest, SendOrder, Acknowledge, Aggregate, Apply, Answer, AnswerAgain, AskBody, GiveBody, NoteReport, NoteOwnReport, Refuse, RejectOrder, SendRequest, after, ack_of, grant_of}
 use Rattle.hc_world.specs.Conditions.{Allowed, MayWin}
 use Rattle.hc_world.specs.World.{World, acked, is_early_for, voted}
 use Rattle.hc_world.specs.Kept.{Kept}
@@ -87,6 +88,22 @@ module _ (w : World) (k : Kept w) where
   aggregates_grow (Aggregate o m) a h = inr h
   aggregates_grow r a h = h
 
+  refusals_grow : (r : Rule) (y : Refusal) → In y w.refusals → In y (after w r).refusals
+  refusals_grow (Refuse v) y h = inr h
+  refusals_grow r y h = h
+
+  nacks_grow : (r : Rule) (y : Nack) → In y w.nacks → In y (after w r).nacks
+  nacks_grow (RejectOrder v hint) y h = inr h
+  nacks_grow r y h = h
+
+  asked_grow : (r : Rule) (rid : Rid) → In rid w.asked → In rid (after w r).asked
+  asked_grow (AskBody v y) rid h = inr h
+  asked_grow r rid h = h
+
+  bodies_grow : (r : Rule) (rid : Rid) → In rid w.bodies → In rid (after w r).bodies
+  bodies_grow (GiveBody v y) rid h = inr h
+  bodies_grow r rid h = h
+
   table_grows : (r : Rule) → (rest : List Request) × ((after w r).table ≡ w.table ++ rest)
   table_grows (SendRequest q) = (q ∷ [], refl)
   table_grows r = ([], sym (append-nil w.table))
@@ -119,6 +136,10 @@ module _ (w : World) (k : Kept w) where
         acks = acks_grow r;
         acked = acked_grows r;
         aggregates = aggregates_grow r;
+        refusals = refusals_grow r;
+        nacks = nacks_grow r;
+        asked = asked_grow r;
+        bodies = bodies_grow r;
         table = table_grows r;
         reports = reports_grow r;
         passed = passed_grow r;

@@ -14,6 +14,7 @@ pub mod Puts
 pub mod Replied
 pub mod Shares
 pub mod Steps
+pub mod Stops
 pub mod Taking
 pub mod Votes
 pub mod Winners

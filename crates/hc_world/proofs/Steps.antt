@@ -8,8 +8,9 @@ use Rattle.hc_world.specs.World.{World}
 use Rattle.hc_world.specs.Kept.{Kept}
 use Rattle.hc_world.proofs.Acks.{acks_are_below, acknowledged_is_kept, acknowledged_is_the_leaders, granted_is_kept, matched_is_the_leaders, orders_are_slices}
 use Rattle.hc_world.proofs.Candidates.{vote_requests_tell_logs, voters_are_behind}
-use Rattle.hc_world.proofs.Commits.{aggregates_are_committed, aggregator_follows_an_order, aggregator_was_told, applied_is_committed, applied_was_passed, commits_are_committed, orders_tell_committed, passed_was_committed, reached_was_acknowledged}
+use Rattle.hc_world.proofs.Commits.{acks_tell_applied, aggregates_are_committed, aggregator_follows_an_order, aggregator_was_told, applied_is_committed, applied_was_passed, commits_are_committed, orders_tell_committed, passed_was_committed, reached_was_acknowledged, reports_were_learnt}
 use Rattle.hc_world.proofs.Logs.{bodies_are_known, entries_are_old, logs_are_formed, logs_match_books, table_is_distinct}
+use Rattle.hc_world.proofs.Stops.{stopped_members_forgot}
 use Rattle.hc_world.proofs.Votes.{candidates_have_not_won, candidates_have_terms, candidates_voted_for_themselves, counted_votes_are_grants, grants_are_old, late_grants_are_of_won_terms, sent_votes_are_grants, votes_are_grants}
 use Rattle.hc_world.proofs.Winners.{books_are_of_their_terms, leaders_have_won, unwon_terms_have_nothing, winners_are_members, winners_are_not_behind, winners_had_majorities, winners_have_their_books, winners_voted_for_themselves, won_terms_are_positive}
 use Rattle.hc_world.specs.Kept.{IsFormed}
@@ -70,6 +71,8 @@ begins members most =
         applied_is_committed = λ v. omega arith;
         applied_was_passed = λ v j h. none j h;
         reached_was_acknowledged = λ v p h. omega arith;
+        acks_tell_applied = λ y h. absurd h;
+        reports_were_learnt = λ y h. absurd h;
         aggregator_was_told = λ p. omega arith;
         aggregator_follows_an_order = λ h. none 0 h;
       };
@@ -77,6 +80,7 @@ begins members most =
         table_is_distinct = λ i k q r h. absurd h;
         bodies_are_known = λ v rid h. known h;
       };
+      stopped_members_forgot = λ v e. cc;
     }
   where
     nothing : (m : ℕ) → m ≤ 0 → Share {A = Entry} m [] []
@@ -135,6 +139,8 @@ steps_keep w r k a =
         applied_is_committed = applied_is_committed w k r a;
         applied_was_passed = applied_was_passed w k r a;
         reached_was_acknowledged = reached_was_acknowledged w k r a;
+        acks_tell_applied = acks_tell_applied w k r a;
+        reports_were_learnt = reports_were_learnt w k r a;
         aggregator_was_told = aggregator_was_told w k r a;
         aggregator_follows_an_order = aggregator_follows_an_order w k r a;
       };
@@ -142,6 +148,7 @@ steps_keep w r k a =
         table_is_distinct = table_is_distinct w k r a;
         bodies_are_known = bodies_are_known w k r a;
       };
+      stopped_members_forgot = stopped_members_forgot w k r a;
     }
 
 pub rules_keep : (w : World) (rules : List Rule) → Kept w → AllAllowed w rules → Kept (run w rules)

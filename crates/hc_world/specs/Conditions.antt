@@ -25,18 +25,12 @@ pub record Competes (w : World) (v : ℕ) : Type 0 where
   pub acts : CanAct w v
   pub competes : w.role v ≡ Candidate
 
--- a member that is up, where an Order of its term was sent by another leader
+-- a member that is up and doesn't lead, where an Order of its term was sent
 pub record Hears (w : World) (v : ℕ) (o : Order) : Type 0 where
   pub acts : CanAct w v
   pub follows : w.role v ≢ Leader
   pub sent : In o w.orders
   pub current : o.term ≡ w.term v
-
--- a leader that an acknowledgement of its term was sent to
-pub record LearnsFrom (w : World) (v : ℕ) (a : Ack) : Type 0 where
-  pub leads : Leads w v
-  pub sent : In a w.acks
-  pub current : a.term ≡ w.term v
 
 -- a member rises to a term above its own (Raft, section 5.1)
 pub record MayRise (w : World) (v s : ℕ) : Type 0 where
@@ -100,8 +94,8 @@ pub record MayConfirm (w : World) (v : ℕ) (o : Order) (k : ℕ) : Type 0 where
   pub hears : Hears w v o
   pub fits : Fits (w.log v) o k
 
--- the log has an entry of another term where the Order has its entry i + 1 (Raft, section 5.3), and neither is what is cut
--- committed, so far as the member knows, nor known to be the leader's
+-- the log has an entry of another term, or none, where the Order has its entry i + 1 (Raft, section 5.3); what it has from
+-- there on is neither committed, so far as the member knows, nor known to be the leader's
 pub record Conflicts (w : World) (v : ℕ) (o : Order) (i : ℕ) : Type 0 where
   pub told : i < length o.entries
   pub differs : term_at (w.log v) (suc (o.previous + i)) ≢ term_at o.entries (suc i)
@@ -148,13 +142,14 @@ pub record MayLearn (w : World) (v : ℕ) (o : Order) (m : ℕ) : Type 0 where
   pub told : m ≤ o.commit
   pub within : m ≤ w.matched v
 
--- a member learns it from the aggregator (HovercRaft, on in-network aggregation)
+-- a member learns from the aggregator's word for its term that what it matched is committed (HovercRaft, on in-network
+-- aggregation)
 pub record MayLearnAggregate (w : World) (v : ℕ) (a : AggregateCommit) (m : ℕ) : Type 0 where
   pub acts : CanAct w v
   pub sent : In a w.aggregates
   pub current : a.term ≡ w.term v
   pub told : m ≤ a.index
-  pub within : m ≤ w.matched v
+  pub matched : m ≤ w.matched v
 
 -- the aggregator finds that a majority have an entry from the leader's own first one on, by Orders and acknowledgements of
 -- the Order's term (HovercRaft, on in-network aggregation; Raft, section 5.4.2)
@@ -200,6 +195,18 @@ pub record MayYield (w : World) (v : ℕ) (o : Order) : Type 0 where
   pub sent : In o w.orders
   pub current : o.term ≡ w.term v
 
+-- a leader learns from an acknowledgement of its term how far a member has applied (HovercRaft, on bounded queues)
+pub record MayNoteReport (w : World) (v : ℕ) (a : Ack) : Type 0 where
+  pub leads : Leads w v
+  pub sent : In a w.acks
+  pub of_term : a.term ≡ w.term v
+
+-- a leader notes the index of an acknowledgement of its term (Raft, section 5.3)
+pub record MayNoteAck (w : World) (v : ℕ) (a : Ack) : Type 0 where
+  pub leads : Leads w v
+  pub sent : In a w.acks
+  pub current : a.term ≡ w.term v
+
 -- a member's pool is what clients sent
 pub record MayHold (w : World) (v : ℕ) (rids : List Rid) : Type 0 where
   pub acts : CanAct w v
@@ -220,7 +227,7 @@ pub record MayCollect (w : World) (a : Ack) : Type 0 where
   pub sent : In a w.acks
   pub current : a.term ≡ w.aggregator.term
 
--- a member that stopped begins again (Raft, section 5.1, on stable storage)
+-- a member that stopped begins again (Raft, section 5.5)
 pub record MayRestart (w : World) (v : ℕ) : Type 0 where
   pub member : v < w.size
   pub stopped : w.up v ≡ false
@@ -254,9 +261,9 @@ Allowed w (AnswerAgain v r e) = MayAnswerAgain w v r e
 Allowed w (AskBody v rid) = MayAsk w v rid
 Allowed w (GiveBody v rid) = MayGive w v rid
 Allowed w (Yield v o) = MayYield w v o
-Allowed w (NoteReport v a) = LearnsFrom w v a
+Allowed w (NoteReport v a) = MayNoteReport w v a
 Allowed w (NoteOwnReport v) = Leads w v
-Allowed w (NoteAck v a) = LearnsFrom w v a
+Allowed w (NoteAck v a) = MayNoteAck w v a
 Allowed w (Hold v rids) = MayHold w v rids
 Allowed w (Refuse v) = CanAct w v
 Allowed w (RejectOrder v hint) = CanAct w v

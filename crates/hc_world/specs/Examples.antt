@@ -1,12 +1,12 @@
 -- Runs that exist: the rules are not empty.
-use Rattle.std.specs.Prelude.{◌≡◌, ℕ, zero, suc, Bool, true, false, ◌==◌, ◌&&◌, ◌||◌, List, [], ◌∷◌, ◌++◌}
+use Rattle.std.specs.Prelude.{◌≡◌, ◌≢◌, ℕ, zero, suc, Bool, true, false, ◌==◌, ◌&&◌, ◌||◌, List, [], ◌∷◌, ◌++◌}
 use Rattle.r2_base.specs.declared.entry.Entry.{Entry}
 use Rattle.hc_world.specs.Agreed.{agreed}
-use Rattle.hc_world.specs.Log.{blank_of}
+use Rattle.hc_world.specs.Log.{In, blank_of}
 use Rattle.hc_world.specs.Message.{Order, Reply, Request}
 use Rattle.hc_world.specs.Rules.{Rule, Rise, Stand, AskVotes, GrantVote, SendVote, CountVote, Win, OrderRequest, SendOrder, Confirm, Take, Acknowledge, CommitByCount, CommitByOrder, CommitByAggregate, Aggregate, Apply, Answer, AnswerAgain, AskBody, GiveBody, Yield, NoteReport, NoteOwnReport, NoteAck, Hold, Refuse, RejectOrder, Follow, NoteOrder, Collect, Forget, Crash, Restart, SendRequest, entry_of}
 use Rattle.hc_world.specs.Runs.{AllAllowed, world_of}
-use Rattle.hc_world.specs.World.{new_world, unreported}
+use Rattle.hc_world.specs.World.{World, Leader, new_world, unreported}
 
 -- some run ends in a step by which a member takes an Order and has another log than before
 pub record IsCut (before behind : List Entry) : Type 0 where
@@ -25,8 +25,13 @@ pub record IsCut (before behind : List Entry) : Type 0 where
 abbrev pub only_reply : Request → List ℕ → Reply
 only_reply q payload = record { request = q.rid; index = 2; payload = payload; place = 1 }
 
--- some run answers a request: its front orders it, which leaves one entry unreported; behind the whole run the request's entry
--- stands behind the leader's first one in the agreed list, is answered, and nothing is unreported
+-- member 0 leads the first term
+abbrev pub LeadsFirst : World → Type 0
+LeadsFirst w = (w.role 0 ≡ Leader) × (w.term 0 ≡ 1)
+
+-- some run answers a request. In its front member 0 orders it for another member, which leaves one entry unreported. Then the
+-- aggregator tells that the entry is committed; the other member learns it from there, applies the entry and answers. In the
+-- end the entry stands behind the leader's first one in the agreed list, has one reply, and nothing is unreported
 pub record IsServed : Type 0 where
   pub members : ℕ
   pub most : ℕ
@@ -36,9 +41,16 @@ pub record IsServed : Type 0 where
   pub request : Request
   pub replier : ℕ
   pub payload : List ℕ
+  pub leads : LeadsFirst (world_of members most front)
+  pub other : replier ≢ 0
   pub ordered : unreported (world_of members most front) 0 replier ≡ 1
+  pub told : In (record { term = 1; index = 2 }) (world_of members most (front ++ back)).aggregates
+  pub learnt : In (CommitByAggregate replier (record { term = 1; index = 2 }) 2) back
+  pub applied : In (record { member = replier; index = 2; entry = entry_of 1 request replier }) (world_of members most (front ++ back)).passed
+  pub answers : In (Answer replier 2 payload) back
   pub stands : agreed (world_of members most (front ++ back)) ≡ blank_of 1 ∷ entry_of 1 request replier ∷ []
   pub answered : (world_of members most (front ++ back)).replied ≡ only_reply request payload ∷ []
+  pub still_leads : LeadsFirst (world_of members most (front ++ back))
   pub reported : unreported (world_of members most (front ++ back)) 0 replier ≡ 0
 
 -- the number of a rule among all rules

@@ -1,10 +1,11 @@
--- What every step keeps: the facts on votes, logs, acknowledgements and commitments.
+-- What every step keeps: the facts on votes, winners, logs, acknowledgements, commitments, requests and crashes.
 use Rattle.std.specs.Prelude.{◌≡◌, ◌≢◌, ◌⊎◌, ℕ, suc, ◌+◌, ◌<◌, ◌≤◌, true, false, max, is_some, List, [], length, take, drop, Option, Some, None}
 use Rattle.r2_base.specs.declared.rid.Rid.{Rid}
 use Rattle.r2_base.specs.declared.entry.Entry.{Entry}
 use Rattle.hc_world.specs.Log.{In, IsNotAhead, Share, blank_of, entry_at, is_request, last_term, term_at}
 use Rattle.hc_world.specs.Majority.{IsMajority}
-use Rattle.hc_world.specs.Message.{VoteRequest, Vote, Order, Ack, AggregateCommit, Request, Grant, Passed}
+use Rattle.hc_world.specs.Message.{VoteRequest, Vote, Order, Ack, AggregateCommit, Request, Grant, Report, Passed}
+use Rattle.hc_world.specs.Parts.{member_of, stopped_member}
 use Rattle.hc_world.specs.Requests.{At, IsKnown, IsListed}
 use Rattle.hc_world.specs.World.{World, Candidate, Leader, Committed, IsCommittedIn, acked, backs, is_early_for, told, voted}
 
@@ -265,6 +266,41 @@ AppliedWasPassed w =
 abbrev pub ReachedWasAcknowledged : World → Type 0
 ReachedWasAcknowledged w = (v p : ℕ) → w.role v ≡ Leader → w.reached v p ≤ acked w.acks (w.term v) p
 
+-- a member applied an entry at an index
+pub record HasPassed (passed : List Passed) (v index : ℕ) : Type 0 where
+  pub entry : Entry
+  pub done : In (record { member = v; index = index; entry = entry }) passed
+
+-- a member applied an entry at each of the first so many indexes
+abbrev pub HasApplied : List Passed → ℕ → ℕ → Type 0
+HasApplied passed v count = (k : ℕ) → k < count → HasPassed passed v (suc k)
+
+-- an acknowledgement tells no more than its member had applied
+abbrev pub AcksTellApplied : World → Type 0
+AcksTellApplied w = (a : Ack) → In a w.acks → HasApplied w.passed a.member a.applied
+
+-- an acknowledgement of the report's term, by its member, told its index
+pub record WasTold (acks : List Ack) (r : Report) : Type 0 where
+  pub ack : Ack
+  pub sent : In ack acks
+  pub term_is : ack.term ≡ r.term
+  pub member_is : ack.member ≡ r.member
+  pub applied_is : ack.applied ≡ r.index
+
+-- the report is of the leader itself, which had applied as much
+pub record IsItsOwn (passed : List Passed) (r : Report) : Type 0 where
+  pub own : r.member ≡ r.leader
+  pub applied : HasApplied passed r.leader r.index
+
+-- the winner of the report's term learnt it, from an acknowledgement of that term or by itself
+pub record WasLearnt (winner : Option ℕ) (acks : List Ack) (passed : List Passed) (r : Report) : Type 0 where
+  pub won : winner ≡ Some r.leader
+  pub told : WasTold acks r ⊎ IsItsOwn passed r
+
+-- so was each report (HovercRaft, on bounded queues)
+abbrev pub ReportsWereLearnt : World → Type 0
+ReportsWereLearnt w = (r : Report) → In r w.reports → WasLearnt (w.winner r.term) w.acks w.passed r
+
 -- what the aggregator holds to be reached was sent or acknowledged in its term
 abbrev pub AggregatorWasTold : World → Type 0
 AggregatorWasTold w =
@@ -293,6 +329,12 @@ TableIsDistinct w =
 -- what members hold, asked for and gave are requests of the table
 abbrev pub BodiesAreKnown : World → Type 0
 BodiesAreKnown w = (v : ℕ) (rid : Rid) → In rid (w.pool v) ⊎ (In rid w.asked ⊎ In rid w.bodies) → IsKnown w.table rid
+
+-- Crashes (Raft, section 5.5; figure 2 on persistent state) --
+
+-- a member that is down has its term, its vote and its log, and else what one that begins has
+abbrev pub StoppedMembersForgot : World → Type 0
+StoppedMembersForgot w = (v : ℕ) → w.up v ≡ false → member_of w v ≡ stopped_member (w.term v) (w.vote v) (w.log v)
 
 -- All of this together --
 
@@ -345,6 +387,8 @@ pub record CommitsKept (w : World) : Type 0 where
   pub applied_is_committed : AppliedIsCommitted w
   pub applied_was_passed : AppliedWasPassed w
   pub reached_was_acknowledged : ReachedWasAcknowledged w
+  pub acks_tell_applied : AcksTellApplied w
+  pub reports_were_learnt : ReportsWereLearnt w
   pub aggregator_was_told : AggregatorWasTold w
   pub aggregator_follows_an_order : AggregatorFollowsAnOrder w
 
@@ -361,3 +405,4 @@ pub record Kept (w : World) : Type 0 where
   pub acknowledgements : AcksKept w
   pub commitments : CommitsKept w
   pub requests : RequestsKept w
+  pub stopped_members_forgot : StoppedMembersForgot w

@@ -21,7 +21,7 @@ use Rattle.hc_world.specs.World.{World, Leader, Committed, new_world, unreported
 abbrev pub RulesLeaveTheRest : Type 0
 RulesLeaveTheRest = (w : World) (r : Rule) → Leaves w r (after w r)
 
--- what was sent, granted, won or noted stays, and terms, books and the table only grow
+-- what was sent, granted, won, learnt, applied or answered stays, and terms, books and the table only grow
 abbrev pub RulesOnlyAdd : Type 0
 RulesOnlyAdd = (w : World) (r : Rule) → Kept w → Allowed w r → Grows w (after w r)
 
@@ -127,7 +127,7 @@ LeadersKeepTheBound =
 abbrev pub CountingAnywhereBreaks : Type 0
 CountingAnywhereBreaks = IsBroken AllowedButAggregate AggregatesAreCommitted
 
--- and two members apply different entries at an index (Raft, section 5.4.2, figure 8)
+-- and different entries are applied at one index (Raft, section 5.4.2, figure 8)
 abbrev pub CountingAnywhereDivides : Type 0
 CountingAnywhereDivides = IsBroken AllowedButAggregate AppliesTheSame
 
@@ -135,7 +135,7 @@ CountingAnywhereDivides = IsBroken AllowedButAggregate AppliesTheSame
 abbrev pub CuttingAnywhereBreaks : Type 0
 CuttingAnywhereBreaks = IsBroken AllowedButTake AcknowledgedIsTheLeaders
 
--- and two members apply different entries at an index
+-- and different entries are applied at one index
 abbrev pub CuttingAnywhereDivides : Type 0
 CuttingAnywhereDivides = IsBroken AllowedButTake AppliesTheSame
 
@@ -143,7 +143,7 @@ CuttingAnywhereDivides = IsBroken AllowedButTake AppliesTheSame
 abbrev pub ConflictsAreCut : Type 0
 ConflictsAreCut = IsCut (blank_of 1 ∷ []) (blank_of 2 ∷ [])
 
--- a request is ordered, committed, applied, answered and reported in some run
+-- a request is ordered, committed by way of the aggregator, applied, answered by the member that it was given to, and reported
 abbrev pub RequestsAreAnswered : Type 0
 RequestsAreAnswered = IsServed
 

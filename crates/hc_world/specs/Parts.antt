@@ -3,9 +3,9 @@ use Rattle.std.specs.Prelude.{◌≡◌, ◌≢◌, ℕ, ◌≤◌, Bool, false,
 use Rattle.r2_base.specs.declared.rid.Rid.{Rid}
 use Rattle.r2_base.specs.declared.entry.Entry.{Entry}
 use Rattle.hc_world.specs.Log.{In, Share}
-use Rattle.hc_world.specs.Message.{VoteRequest, Vote, Order, Ack, AggregateCommit, Request, Grant, Report, Passed, Reply}
+use Rattle.hc_world.specs.Message.{VoteRequest, Vote, Order, Ack, AggregateCommit, Refusal, Nack, Request, Grant, Report, Passed, Reply}
 use Rattle.hc_world.specs.Rules.{Rule, Rise, Stand, AskVotes, GrantVote, SendVote, CountVote, Win, OrderRequest, SendOrder, Confirm, Take, Acknowledge, CommitByCount, CommitByOrder, CommitByAggregate, Aggregate, Apply, Answer, AnswerAgain, AskBody, GiveBody, Yield, NoteReport, NoteOwnReport, NoteAck, Hold, Refuse, RejectOrder, Follow, NoteOrder, Collect, Forget, Crash, Restart, SendRequest}
-use Rattle.hc_world.specs.World.{World, Role, acked}
+use Rattle.hc_world.specs.World.{World, Role, Follower, acked}
 
 -- the parts of the world, by their names there
 pub data Part : Type 0 where
@@ -128,7 +128,7 @@ pub record Leaves (w : World) (r : Rule) (x : World) : Type 0 where
   pub bound : x.bound ≡ w.bound
   pub part : (p : Part) → is_named p (changed_by r) ≡ false → Same p w x
 
--- what only grows. Lists of messages grow in front, the table behind
+-- what only grows: what was sent, granted, won, learnt, applied or answered stays, books and the table grow behind
 pub record Grows (w x : World) : Type 0 where
   pub terms : (v : ℕ) → w.term v ≤ x.term v
   pub grants : (t v : ℕ) (g : Grant) → w.granted t v ≡ Some g → x.granted t v ≡ Some g
@@ -141,6 +141,10 @@ pub record Grows (w x : World) : Type 0 where
   pub acks : (a : Ack) → In a w.acks → In a x.acks
   pub acked : (t v : ℕ) → acked w.acks t v ≤ acked x.acks t v
   pub aggregates : (a : AggregateCommit) → In a w.aggregates → In a x.aggregates
+  pub refusals : (y : Refusal) → In y w.refusals → In y x.refusals
+  pub nacks : (y : Nack) → In y w.nacks → In y x.nacks
+  pub asked : (rid : Rid) → In rid w.asked → In rid x.asked
+  pub bodies : (rid : Rid) → In rid w.bodies → In rid x.bodies
   pub table : (rest : List Request) × (x.table ≡ w.table ++ rest)
   pub reports : (r : Report) → In r w.reports → In r x.reports
   pub passed : (e : Passed) → In e w.passed → In e x.passed
@@ -177,6 +181,24 @@ member_of w u =
       start = w.start u;
       reached = w.reached u;
       pool = w.pool u;
+    }
+
+-- a member that is down: it kept its term, its vote and its log, and has the rest as one that begins (Raft, figure 2)
+abbrev pub stopped_member : ℕ → Option ℕ → List Entry → MemberOf
+stopped_member term vote log =
+    record {
+      term = term;
+      vote = vote;
+      log = log;
+      up = false;
+      role = Follower;
+      counted = λ c. false;
+      matched = 0;
+      commit = 0;
+      applied = 0;
+      start = 0;
+      reached = λ p. 0;
+      pool = [];
     }
 
 -- the member is another than the one that makes the step, if a member does

@@ -68,7 +68,7 @@ pub data Rule : Type 0 where
   NoteOrder : Order → Rule
   Collect : Ack → Rule
   Forget : Rule
-  -- v stops, and begins again with what it kept (Raft, section 5.1, on stable storage)
+  -- v stops, and begins again with what it kept (Raft, section 5.5; figure 2 on persistent state)
   Crash : (v : ℕ) → Rule
   Restart : (v : ℕ) → Rule
   -- a client sends a request for the first time (HovercRaft, on separating replication from order)

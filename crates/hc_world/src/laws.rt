@@ -8,7 +8,7 @@ pub fn rules_leave_the_rest()
     ensures { RulesLeaveTheRest }
 {}
 
-/// What was sent, granted, won or noted stays. Terms and books only grow, and the table of requests grows behind.
+/// What was sent, granted, won, learnt, applied or answered stays. Terms only grow; books and the table of requests grow behind.
 pub fn rules_only_add()
     ensures { RulesOnlyAdd }
 {}
@@ -18,7 +18,7 @@ pub fn rules_spare_others()
     ensures { RulesSpareOthers }
 {}
 
-/// A group that begins has every fact on votes, logs, acknowledgements and commitments.
+/// A group that begins has every fact on votes, winners, logs, acknowledgements, commitments, requests and crashes.
 pub fn the_beginning_is_kept()
     ensures { BeginningIsKept }
 {}
@@ -63,7 +63,7 @@ pub fn applied_is_agreed()
     ensures { AppliedIsAgreed }
 {}
 
-/// What two members apply at an index is the same entry.
+/// What two members, or one at two times, apply at an index is the same entry.
 pub fn members_apply_the_same()
     ensures { MembersApplyTheSame }
 {}
@@ -109,7 +109,7 @@ pub fn counting_anywhere_breaks()
     ensures { CountingAnywhereBreaks }
 {}
 
-/// And there is a run in which two members apply different entries at an index (Raft, section 5.4.2).
+/// And there is a run in which different entries are applied at one index (Raft, section 5.4.2).
 pub fn counting_anywhere_divides()
     ensures { CountingAnywhereDivides }
 {}
@@ -120,7 +120,7 @@ pub fn cutting_anywhere_breaks()
     ensures { CuttingAnywhereBreaks }
 {}
 
-/// And there is a run in which two members apply different entries at an index.
+/// And there is a run in which different entries are applied at one index.
 pub fn cutting_anywhere_divides()
     ensures { CuttingAnywhereDivides }
 {}
