@@ -11,7 +11,7 @@ use Rattle.r2_frag.specs.declared.part_count.PartCount.TheVariants.{Exactly, AtL
 use Rattle.r2_frag.specs.declared.unfinished.Unfinished.{Unfinished}
 use Rattle.r2_frag.specs.Assembly.{added, has_all, joined, message_of, number_of, piece_at, refused, settle, whole_body, with_part}
 use Rattle.r2_frag.specs.Bodies.{IsAllowed, IsPartOf}
-use Rattle.r2_frag.specs.Histories.{Step, messages_after, numbers_of}
+use Rattle.r2_frag.specs.Histories.{Step, messages_after, numbers, parts_under}
 use Rattle.r2_frag.specs.Laws.{Completes, WholeAtTheLastPart}
 use Rattle.r2_frag.specs.Parts.{part_count}
 use Rattle.r2_frag.proofs.Gathering.{Holds, Holds-next, Keeps, gathers-after, has_number, has_number-true, true-has_number}
@@ -72,10 +72,10 @@ answer-other P messages key h payload good e more dropped =
     rw (added-taken messages key h payload good, e) (answer-go_on P (with_part (message_of key messages) h payload) messages more dropped)
 
 -- a part that came since the key began
-completes-again : (body : List ℕ) (key : Key) (earlier : List Step) (h : Header) (payload : List ℕ) → Keeps body (numbers_of key earlier) (message_of key (messages_after earlier)) → IsPartOf body h payload → has_number (number_of h) (numbers_of key earlier) ≡ true → refused (messages_after earlier) key h payload ≡ Some Repeat → Completes body key earlier h payload
+completes-again : (body : List ℕ) (key : Key) (earlier : List Step) (h : Header) (payload : List ℕ) → Keeps body (numbers (parts_under key earlier)) (message_of key (messages_after earlier)) → IsPartOf body h payload → has_number (number_of h) (numbers (parts_under key earlier)) ≡ true → refused (messages_after earlier) key h payload ≡ Some Repeat → Completes body key earlier h payload
 completes-again body key earlier h payload keeps part there again =
     let messages : List Unfinished = messages_after earlier in
-    let numbers : List ℕ = numbers_of key earlier in
+    let came : List ℕ = numbers (parts_under key earlier) in
     let m : Unfinished = message_of key messages in
     let n : ℕ = number_of h in
     let a = answer-kept messages key h payload again in
@@ -84,61 +84,61 @@ completes-again body key earlier h payload keeps part there again =
       whole = (
         λ e. (let clash : Repeat ≡ Whole body = sym a ∙ e in cc),
         λ each.
-            (let whole = whole-each body numbers m keeps.holds (λ k below. number-again k n numbers there (true-has_number k (n ∷ numbers) (each k below))) in
+            (let whole = whole-each body came m keeps.holds (λ k below. number-again k n came there (true-has_number k (n ∷ came) (each k below))) in
             let waits = keeps.waits in
             cc),
       );
-      repeat = (λ e. has_number-true n numbers there, λ c. a);
+      repeat = (λ e. has_number-true n came there, λ c. a);
     }
 
 -- a part that didn't come since then, and completes its message
-completes-last : (body : List ℕ) (key : Key) (earlier : List Step) (h : Header) (payload b : List ℕ) → length body ≤ 65536 → Keeps body (numbers_of key earlier) (message_of key (messages_after earlier)) → IsPartOf body h payload → has_number (number_of h) (numbers_of key earlier) ≡ false → refused (messages_after earlier) key h payload ≡ None → whole_body (with_part (message_of key (messages_after earlier)) h payload).count (with_part (message_of key (messages_after earlier)) h payload).pieces ≡ Some b → Completes body key earlier h payload
+completes-last : (body : List ℕ) (key : Key) (earlier : List Step) (h : Header) (payload b : List ℕ) → length body ≤ 65536 → Keeps body (numbers (parts_under key earlier)) (message_of key (messages_after earlier)) → IsPartOf body h payload → has_number (number_of h) (numbers (parts_under key earlier)) ≡ false → refused (messages_after earlier) key h payload ≡ None → whole_body (with_part (message_of key (messages_after earlier)) h payload).count (with_part (message_of key (messages_after earlier)) h payload).pieces ≡ Some b → Completes body key earlier h payload
 completes-last body key earlier h payload b short keeps part new good e =
     let messages : List Unfinished = messages_after earlier in
-    let numbers : List ℕ = numbers_of key earlier in
+    let came : List ℕ = numbers (parts_under key earlier) in
     let m : Unfinished = message_of key messages in
     let next : Unfinished = with_part m h payload in
     let n : ℕ = number_of h in
-    let holds : Holds body (n ∷ numbers) next = Holds-next body numbers m h payload short keeps.holds part in
+    let holds : Holds body (n ∷ came) next = Holds-next body came m h payload short keeps.holds part in
     let is : b ≡ body = whole_body-is body next.count next.pieces b holds.parts.count (λ k p at. (holds.parts.pieces k p at).1) e in
     let a = answer-whole messages key h payload b good e ∙ ap Whole is in
     record {
       good = gives_body body messages key h payload keeps.holds.parts part;
       whole =
-          (λ w k below. has_number-true k (n ∷ numbers) (each-whole body (n ∷ numbers) next next.count b holds holds.parts.count e k below), λ each. a);
+          (λ w k below. has_number-true k (n ∷ came) (each-whole body (n ∷ came) next next.count b holds holds.parts.count e k below), λ each. a);
       repeat = (
         λ r. (let clash : Whole body ≡ Repeat = sym a ∙ r in cc),
         λ c.
-            (let there = true-has_number n numbers c in let clash : true ≡ false = sym there ∙ new in cc),
+            (let there = true-has_number n came c in let clash : true ≡ false = sym there ∙ new in cc),
       );
     }
 
 -- or doesn't
-completes-more : (body : List ℕ) (key : Key) (earlier : List Step) (h : Header) (payload : List ℕ) → length body ≤ 65536 → Keeps body (numbers_of key earlier) (message_of key (messages_after earlier)) → IsPartOf body h payload → has_number (number_of h) (numbers_of key earlier) ≡ false → refused (messages_after earlier) key h payload ≡ None → whole_body (with_part (message_of key (messages_after earlier)) h payload).count (with_part (message_of key (messages_after earlier)) h payload).pieces ≡ None → Completes body key earlier h payload
+completes-more : (body : List ℕ) (key : Key) (earlier : List Step) (h : Header) (payload : List ℕ) → length body ≤ 65536 → Keeps body (numbers (parts_under key earlier)) (message_of key (messages_after earlier)) → IsPartOf body h payload → has_number (number_of h) (numbers (parts_under key earlier)) ≡ false → refused (messages_after earlier) key h payload ≡ None → whole_body (with_part (message_of key (messages_after earlier)) h payload).count (with_part (message_of key (messages_after earlier)) h payload).pieces ≡ None → Completes body key earlier h payload
 completes-more body key earlier h payload short keeps part new good e =
     let messages : List Unfinished = messages_after earlier in
-    let numbers : List ℕ = numbers_of key earlier in
+    let came : List ℕ = numbers (parts_under key earlier) in
     let m : Unfinished = message_of key messages in
     let next : Unfinished = with_part m h payload in
     let n : ℕ = number_of h in
-    let holds : Holds body (n ∷ numbers) next = Holds-next body numbers m h payload short keeps.holds part in
+    let holds : Holds body (n ∷ came) next = Holds-next body came m h payload short keeps.holds part in
     record {
       good = gives_body body messages key h payload keeps.holds.parts part;
       whole = (
         λ w. absurd (answer-other (λ (x : Added). x ≡ Whole body → ⊥) messages key h payload good e (λ q. cc) (λ other q. cc) w),
         λ each.
-            (let whole = whole-each body (n ∷ numbers) next holds (λ k below. true-has_number k (n ∷ numbers) (each k below)) in
+            (let whole = whole-each body (n ∷ came) next holds (λ k below. true-has_number k (n ∷ came) (each k below)) in
             cc),
       );
       repeat = (
         λ r. absurd (answer-other (λ (x : Added). x ≡ Repeat → ⊥) messages key h payload good e (λ q. cc) (λ other q. cc) r),
         λ c.
-            (let there = true-has_number n numbers c in let clash : true ≡ false = sym there ∙ new in cc),
+            (let there = true-has_number n came c in let clash : true ≡ false = sym there ∙ new in cc),
       );
     }
 
 -- by whether the message is whole with the part
-completes-new : (body : List ℕ) (key : Key) (earlier : List Step) (h : Header) (payload : List ℕ) (o : Option (List ℕ)) → length body ≤ 65536 → Keeps body (numbers_of key earlier) (message_of key (messages_after earlier)) → IsPartOf body h payload → has_number (number_of h) (numbers_of key earlier) ≡ false → refused (messages_after earlier) key h payload ≡ None → whole_body (with_part (message_of key (messages_after earlier)) h payload).count (with_part (message_of key (messages_after earlier)) h payload).pieces ≡ o → Completes body key earlier h payload
+completes-new : (body : List ℕ) (key : Key) (earlier : List Step) (h : Header) (payload : List ℕ) (o : Option (List ℕ)) → length body ≤ 65536 → Keeps body (numbers (parts_under key earlier)) (message_of key (messages_after earlier)) → IsPartOf body h payload → has_number (number_of h) (numbers (parts_under key earlier)) ≡ false → refused (messages_after earlier) key h payload ≡ None → whole_body (with_part (message_of key (messages_after earlier)) h payload).count (with_part (message_of key (messages_after earlier)) h payload).pieces ≡ o → Completes body key earlier h payload
 completes-new body key earlier h payload (Some b) short keeps part new good e = completes-last body key earlier h payload b short keeps part new good e
 completes-new body key earlier h payload None short keeps part new good e = completes-more body key earlier h payload short keeps part new good e
 
@@ -147,7 +147,7 @@ pub whole_at_the_last_part : WholeAtTheLastPart
 whole_at_the_last_part body key earlier h payload short parts part =
     let messages : List Unfinished = messages_after earlier in
     let m : Unfinished = message_of key messages in
-    let keeps = (gathers-after body key earlier short parts).keeps in
+    let keeps = (gathers-after body key earlier short).keeps parts in
     let known = refusal-part body m.count (is_some (piece_at (number_of h) m.pieces)) h payload keeps.holds.parts.count part in
     let there = keeps.holds.kept (number_of h) in
     elim (cases_Bool (is_some (piece_at (number_of h) m.pieces))) [

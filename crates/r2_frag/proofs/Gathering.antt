@@ -3,6 +3,7 @@ use Rattle.std.proofs.Common.{◌≡◌, ◌<◌, ◌≤◌, ◌==◌, ◌||◌,
 use Rattle.std.specs.List.{Contains, find}
 use Rattle.std.proofs.lemmas.Bool.{cases_Bool, cases_eq, eq-eqb, eqb-true, ne_eqb, or_right}
 use Rattle.std.proofs.lemmas.List.{length-set}
+use Rattle.std.proofs.lemmas.List.Elements.{All-head, All-tail}
 use Rattle.std.proofs.lemmas.Option.{same_Some}
 use Rattle.r2_header.specs.declared.header.Header.{Header}
 use Rattle.r2_frag.specs.declared.added.Added.{Added}
@@ -13,7 +14,7 @@ use Rattle.r2_frag.specs.declared.part_count.PartCount.TheVariants.{Exactly, AtL
 use Rattle.r2_frag.specs.declared.unfinished.Unfinished.{Unfinished}
 use Rattle.r2_frag.specs.Assembly.{added, begin, begun, both_counts, contradicts, count_said, go_on, is_begun, is_of, length_fits, message_of, number_of, piece_at, put, refusal, whole_body, with_part, without}
 use Rattle.r2_frag.specs.Bodies.{HasPartsOf, IsAllowed, IsPartOf}
-use Rattle.r2_frag.specs.Histories.{AddsPartsOf, Step, Adds, Forgets, messages_after, numbers_by, numbers_of, unless_given_up, with_number}
+use Rattle.r2_frag.specs.Histories.{ArePartsOf, Part, Step, Adds, Forgets, messages_after, numbers, parts_by, parts_under, unless_given_up, with_new}
 use Rattle.r2_frag.specs.Keys.{same_key}
 use Rattle.r2_frag.specs.Laws.{IsRefusal}
 use Rattle.r2_frag.specs.Parts.{part_count}
@@ -134,23 +135,23 @@ message_of-none : (key : Key) (messages : List Unfinished) → find (is_of key) 
 unfolding message_of
 message_of-none key messages e = rw e refl
 
--- the messages are distinct, and that of the key keeps the parts of the body with these numbers
-pub record Gathers (body : List ℕ) (key : Key) (numbers : List ℕ) (messages : List Unfinished) : Type 0 where
+-- the messages are distinct, and that of the key keeps the parts that were taken, where these are of the body
+pub record Gathers (body : List ℕ) (key : Key) (parts : List Part) (messages : List Unfinished) : Type 0 where
   pub distinct : AreDistinct messages
-  pub keeps : Keeps body numbers (message_of key messages)
+  pub keeps : ArePartsOf body parts → Keeps body (numbers parts) (message_of key messages)
 
--- a message that goes on under some key, which is this one where it keeps the numbers and one more
-record GoesOn (body : List ℕ) (key other : Key) (n : ℕ) (numbers : List ℕ) (next : Unfinished) : Type 0 where
+-- a message that goes on under some key: where that is this one, it keeps the parts and one more
+record GoesOn (body : List ℕ) (key other : Key) (part : Part) (parts : List Part) (next : Unfinished) : Type 0 where
   owner : next.key ≡ other
-  more : same_key other key ≡ true → Keeps body (n ∷ numbers) next
+  more : same_key other key ≡ true → ArePartsOf body (part ∷ parts) → Keeps body (numbers (part ∷ parts)) next
 
 -- the key of a message that goes on, as the test sees it
 owner-test : (key other : Key) (next : Unfinished) (b : Bool) → next.key ≡ other → same_key other key ≡ b → same_key next.key key ≡ b
 owner-test key other next b e t = ap (λ (k : Key). same_key k key) e ∙ t
 
 -- a message that is put among the others
-after_put : (body : List ℕ) (key other : Key) (n : ℕ) (numbers : List ℕ) (next : Unfinished) (messages : List Unfinished) → Gathers body key numbers messages → GoesOn body key other n numbers next → is_some (find (is_of next.key) messages) ≡ true → Gathers body key (with_number key other n numbers) (put next messages)
-after_put body key other n numbers next messages g o begun' =
+after_put : (body : List ℕ) (key other : Key) (part : Part) (parts : List Part) (next : Unfinished) (messages : List Unfinished) → Gathers body key parts messages → GoesOn body key other part parts next → is_some (find (is_of next.key) messages) ≡ true → Gathers body key (with_new key other part parts) (put next messages)
+after_put body key other part parts next messages g o begun' =
     elim (cases_Bool (same_key other key)) [
       | inl t ↦
           (let same : next.key ≡ key = o.owner ∙ same_key-true other key t in
@@ -168,8 +169,8 @@ after_put body key other n numbers next messages g o begun' =
     ]
 
 -- a message that is put behind the others
-after_push : (body : List ℕ) (key other : Key) (n : ℕ) (numbers : List ℕ) (next : Unfinished) (messages : List Unfinished) → Gathers body key numbers messages → GoesOn body key other n numbers next → find (is_of next.key) messages ≡ None → Gathers body key (with_number key other n numbers) (messages ++ next ∷ [])
-after_push body key other n numbers next messages g o none =
+after_push : (body : List ℕ) (key other : Key) (part : Part) (parts : List Part) (next : Unfinished) (messages : List Unfinished) → Gathers body key parts messages → GoesOn body key other part parts next → find (is_of next.key) messages ≡ None → Gathers body key (with_new key other part parts) (messages ++ next ∷ [])
+after_push body key other part parts next messages g o none =
     elim (cases_Bool (same_key other key)) [
       | inl t ↦
           (let same : next.key ≡ key = o.owner ∙ same_key-true other key t in
@@ -188,21 +189,21 @@ after_push body key other n numbers next messages g o none =
     ]
 
 -- the message begun first leaves
-after_oldest : (body : List ℕ) (key : Key) (numbers : List ℕ) (m : Unfinished) (rest : List Unfinished) → Gathers body key numbers (m ∷ rest) → Gathers body key (unless_given_up key m.key numbers) rest
-after_oldest body key numbers m rest g =
+after_oldest : (body : List ℕ) (key : Key) (parts : List Part) (m : Unfinished) (rest : List Unfinished) → Gathers body key parts (m ∷ rest) → Gathers body key (unless_given_up key m.key parts) rest
+after_oldest body key parts m rest g =
     elim (cases_Bool (same_key m.key key)) [
       | inl t ↦
           (let same = same_key-true m.key key t in
           let gone : find (is_of key) rest ≡ None = subst (λ (k : Key). find (is_of k) rest ≡ None) same g.distinct.0 in
-          record { distinct = g.distinct.1; keeps = rw (t, message_of-none key rest gone) (Keeps-begun body key) })
+          record { distinct = g.distinct.1; keeps = rw (t, message_of-none key rest gone) (λ are. Keeps-begun body key) })
       | inr f ↦
           (let there : find (is_of key) rest ≡ find (is_of key) (m ∷ rest) = rw f refl in
           record { distinct = g.distinct.1; keeps = rw (f, message_of-same key rest (m ∷ rest) there) g.keeps })
     ]
 
--- and the key of one that begins has none, so the numbers that are given up aren't its own
-goes_on-oldest : (body : List ℕ) (key other : Key) (n : ℕ) (numbers : List ℕ) (next m : Unfinished) → GoesOn body key other n numbers next → is_of next.key m ≡ false → GoesOn body key other n (unless_given_up key m.key numbers) next
-goes_on-oldest body key other n numbers next m o apart =
+-- and the key of one that begins has none, so the parts that are given up aren't its own
+goes_on-oldest : (body : List ℕ) (key other : Key) (part : Part) (parts : List Part) (next m : Unfinished) → GoesOn body key other part parts next → is_of next.key m ≡ false → GoesOn body key other part (unless_given_up key m.key parts) next
+goes_on-oldest body key other part parts next m o apart =
     record {
       owner = o.owner;
       more = λ t.
@@ -212,24 +213,24 @@ goes_on-oldest body key other n numbers next m o apart =
     }
 
 -- what is gathered behind an answer
-abbrev GathersBy : List ℕ → Key → Key → ℕ → List ℕ → Added × List Unfinished → Type 0
-GathersBy body key other n numbers r = Gathers body key (numbers_by r.0 key other n numbers) r.1
+abbrev GathersBy : List ℕ → Key → Key → Part → List Part → Added × List Unfinished → Type 0
+GathersBy body key other part parts r = Gathers body key (parts_by r.0 key other part parts) r.1
 
 -- a message that begins
-after_begin : (body : List ℕ) (key other : Key) (n : ℕ) (numbers : List ℕ) (next : Unfinished) (messages : List Unfinished) → Gathers body key numbers messages → GoesOn body key other n numbers next → find (is_of next.key) messages ≡ None → GathersBy body key other n numbers (begin next messages)
+after_begin : (body : List ℕ) (key other : Key) (part : Part) (parts : List Part) (next : Unfinished) (messages : List Unfinished) → Gathers body key parts messages → GoesOn body key other part parts next → find (is_of next.key) messages ≡ None → GathersBy body key other part parts (begin next messages)
 unfolding begin
-after_begin body key other n numbers next [] g o none = after_push body key other n numbers next [] g o none
-after_begin body key other n numbers next (m ∷ rest) g o none =
+after_begin body key other part parts next [] g o none = after_push body key other part parts next [] g o none
+after_begin body key other part parts next (m ∷ rest) g o none =
     elim (cases_Bool (ltb (length (m ∷ rest)) 256)) [
-      | inl room ↦ rw room (after_push body key other n numbers next (m ∷ rest) g o none)
+      | inl room ↦ rw room (after_push body key other part parts next (m ∷ rest) g o none)
       | inr full ↦
           elim (cases_Bool (is_of next.key m)) [
             | inl t ↦ (let some = rw t at none in cc)
             | inr f ↦
                 (let tail : find (is_of next.key) rest ≡ None = rw f at none in
-                let left = after_oldest body key numbers m rest g in
-                let on = goes_on-oldest body key other n numbers next m o f in
-                rw full (after_push body key other n (unless_given_up key m.key numbers) next rest left on tail))
+                let left = after_oldest body key parts m rest g in
+                let on = goes_on-oldest body key other part parts next m o f in
+                rw full (after_push body key other part (unless_given_up key m.key parts) next rest left on tail))
           ]
     ]
 
@@ -239,24 +240,24 @@ none-found (Some x) e = cc
 none-found None e = refl
 
 -- a message that goes on
-after_go_on : (body : List ℕ) (key other : Key) (n : ℕ) (numbers : List ℕ) (next : Unfinished) (messages : List Unfinished) → Gathers body key numbers messages → GoesOn body key other n numbers next → GathersBy body key other n numbers (go_on next messages)
+after_go_on : (body : List ℕ) (key other : Key) (part : Part) (parts : List Part) (next : Unfinished) (messages : List Unfinished) → Gathers body key parts messages → GoesOn body key other part parts next → GathersBy body key other part parts (go_on next messages)
 unfolding go_on is_begun
-after_go_on body key other n numbers next messages g o =
+after_go_on body key other part parts next messages g o =
     elim (cases_Bool (is_some (find (is_of next.key) messages))) [
-      | inl t ↦ rw t (after_put body key other n numbers next messages g o t)
-      | inr f ↦ rw f (after_begin body key other n numbers next messages g o (none-found (find (is_of next.key) messages) f))
+      | inl t ↦ rw t (after_put body key other part parts next messages g o t)
+      | inr f ↦ rw f (after_begin body key other part parts next messages g o (none-found (find (is_of next.key) messages) f))
     ]
 
 -- a message that is forgotten, or whole
-after_without : (body : List ℕ) (key other owner : Key) (numbers : List ℕ) (messages : List Unfinished) → Gathers body key numbers messages → owner ≡ other → Gathers body key (unless_given_up key other numbers) (without owner messages)
-after_without body key other owner numbers messages g e =
+after_without : (body : List ℕ) (key other owner : Key) (parts : List Part) (messages : List Unfinished) → Gathers body key parts messages → owner ≡ other → Gathers body key (unless_given_up key other parts) (without owner messages)
+after_without body key other owner parts messages g e =
     elim (cases_Bool (same_key other key)) [
       | inl t ↦
           (let same : owner ≡ key = e ∙ same_key-true other key t in
           let gone : find (is_of key) (without owner messages) ≡ None = subst (λ (k : Key). find (is_of key) (without k messages) ≡ None) (sym same) (find-without_same key messages g.distinct) in
           record {
             distinct = AreDistinct-without owner messages g.distinct;
-            keeps = rw (t, message_of-none key (without owner messages) gone) (Keeps-begun body key);
+            keeps = rw (t, message_of-none key (without owner messages) gone) (λ are. Keeps-begun body key);
           })
       | inr f ↦
           (let apart : same_key owner key ≡ false = ap (λ (k : Key). same_key k key) e ∙ f in
@@ -266,13 +267,13 @@ after_without body key other owner numbers messages g e =
           })
     ]
 
--- a refusal changes no numbers
-refused-numbers : (answer : Added) (key other : Key) (n : ℕ) (numbers : List ℕ) → IsRefusal answer → numbers_by answer key other n numbers ≡ numbers
-refused-numbers Repeat key other n numbers i = refl
-refused-numbers (Bad why) key other n numbers i = refl
-refused-numbers More key other n numbers i = absurd i
-refused-numbers (Whole b) key other n numbers i = absurd i
-refused-numbers (Dropped k) key other n numbers i = absurd i
+-- a refusal changes no parts
+refused-parts : (answer : Added) (key other : Key) (part : Part) (parts : List Part) → IsRefusal answer → parts_by answer key other part parts ≡ parts
+refused-parts Repeat key other part parts i = refl
+refused-parts (Bad why) key other part parts i = refl
+refused-parts More key other part parts i = absurd i
+refused-parts (Whole b) key other part parts i = absurd i
+refused-parts (Dropped k) key other part parts i = absurd i
 
 -- each refusal is one
 refusal-is : (count : PartCount) (is_kept : Bool) (h : Header) (payload : List ℕ) (answer : Added) → refusal count is_kept h payload ≡ Some answer → IsRefusal answer
@@ -292,31 +293,34 @@ refusal-is count is_kept h payload answer e =
     ]
 
 -- a part that is added, under this key or another
-after_added : (body : List ℕ) (key other : Key) (numbers : List ℕ) (messages : List Unfinished) (h : Header) (payload : List ℕ) → length body ≤ 65536 → Gathers body key numbers messages → (other ≡ key → IsPartOf body h payload) → GathersBy body key other (number_of h) numbers (added messages other h payload)
-after_added body key other numbers messages h payload short g part =
+after_added : (body : List ℕ) (key other : Key) (parts : List Part) (messages : List Unfinished) (h : Header) (payload : List ℕ) → length body ≤ 65536 → Gathers body key parts messages → GathersBy body key other (h, payload) parts (added messages other h payload)
+after_added body key other parts messages h payload short g =
     let n : ℕ = number_of h in
+    let part : Part = (h, payload) in
     let next : Unfinished = with_part (message_of other messages) h payload in
     let owner : next.key ≡ other = key-next other messages h payload in
-    outcome (GathersBy body key other n numbers) messages other h payload
+    outcome (GathersBy body key other part parts) messages other h payload
     (λ answer e.
-    let none = refused-numbers answer key other n numbers (refusal-is (message_of other messages).count (is_some (piece_at n (message_of other messages).pieces)) h payload answer e) in
-    subst (λ (ns : List ℕ). Gathers body key ns messages) (sym none) g)
-    (λ b good e. after_without body key other next.key numbers messages g owner)
-    (λ good e. after_go_on body key other n numbers next messages g (record {
+    let none = refused-parts answer key other part parts (refusal-is (message_of other messages).count (is_some (piece_at n (message_of other messages).pieces)) h payload answer e) in
+    subst (λ (ps : List Part). Gathers body key ps messages) (sym none) g)
+    (λ b good e. after_without body key other next.key parts messages g owner)
+    (λ good e. after_go_on body key other part parts next messages g (record {
       owner = owner;
-      more = λ t.
+      more = λ t are.
           (let same = same_key-true other key t in
           let mine : message_of other messages ≡ message_of key messages = ap (λ (k : Key). message_of k messages) same in
-          let mine_keeps : Keeps body numbers (message_of other messages) = subst (Keeps body numbers) (sym mine) g.keeps in
-          record { holds = Holds-next body numbers (message_of other messages) h payload short mine_keeps.holds (part same); waits = e });
+          let before : ArePartsOf body parts = All-tail (λ (p : Part). IsPartOf body p.0 p.1) part parts are in
+          let mine_keeps : Keeps body (numbers parts) (message_of other messages) = subst (Keeps body (numbers parts)) (sym mine) (g.keeps before) in
+          let is : IsPartOf body h payload = All-head (λ (p : Part). IsPartOf body p.0 p.1) part parts are in
+          record { holds = Holds-next body (numbers parts) (message_of other messages) h payload short mine_keeps.holds is; waits = e });
     }))
 
 -- what is gathered behind a history
-pub gathers-after : (body : List ℕ) (key : Key) (steps : List Step) → length body ≤ 65536 → AddsPartsOf body key steps → Gathers body key (numbers_of key steps) (messages_after steps)
-unfolding messages_after numbers_of
-gathers-after body key [] short parts =
-    record { distinct = tt; keeps = rw (message_of-none key [] refl) (Keeps-begun body key) }
-gathers-after body key (Adds other h payload ∷ earlier) short parts =
-    after_added body key other (numbers_of key earlier) (messages_after earlier) h payload short (gathers-after body key earlier short parts.1) parts.0
-gathers-after body key (Forgets other ∷ earlier) short parts =
-    after_without body key other other (numbers_of key earlier) (messages_after earlier) (gathers-after body key earlier short parts) refl
+pub gathers-after : (body : List ℕ) (key : Key) (steps : List Step) → length body ≤ 65536 → Gathers body key (parts_under key steps) (messages_after steps)
+unfolding messages_after parts_under
+gathers-after body key [] short =
+    record { distinct = tt; keeps = rw (message_of-none key [] refl) (λ are. Keeps-begun body key) }
+gathers-after body key (Adds other h payload ∷ earlier) short =
+    after_added body key other (parts_under key earlier) (messages_after earlier) h payload short (gathers-after body key earlier short)
+gathers-after body key (Forgets other ∷ earlier) short =
+    after_without body key other other (parts_under key earlier) (messages_after earlier) (gathers-after body key earlier short) refl

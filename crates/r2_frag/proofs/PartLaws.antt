@@ -16,7 +16,7 @@ use Rattle.r2_frag.specs.declared.part_spec.PartSpec.{PartSpec}
 use Rattle.r2_frag.specs.Assembly.{number_of}
 use Rattle.r2_frag.specs.Bodies.{IsPartOf}
 use Rattle.r2_frag.specs.Keys.{class_of, key_at}
-use Rattle.r2_frag.specs.Laws.{PartsAreOfTheBody, PartsHaveTheKey, ShortBodyIsOnePart}
+use Rattle.r2_frag.specs.Laws.{FitsHeaders, PartsAreOfTheBody, PartsHaveTheKey, ShortBodyIsOnePart}
 use Rattle.r2_frag.specs.Parts.{IsSendable, part_count, part_datagram, part_header, part_type, parts_of, piece}
 use Rattle.r2_frag.proofs.Headers.{IsValid-part_header, suc-other}
 
@@ -58,12 +58,17 @@ placed-part spec body n h =
     let inside : n < length parts = rw (length-parts_of spec body) h in
     slice_get-get_or parts n d inside ∙ ap Some (get_or-map-range_with_len (part_datagram spec body) 0 (part_count body) n n d h (omega arith))
 
+-- the numbers of a part's header fit their fields
+FitsFields-part_header : (spec : PartSpec) (count n : ℕ) → FitsHeaders spec → FitsFields (part_header spec count n)
+unfolding part_header
+FitsFields-part_header spec count n fits = record { id = fits.id; client = fits.client }
+
 -- the bytes of a part read as its header
-read-part : (spec : PartSpec) (body : List ℕ) (n : ℕ) → IsSendable spec body → n < part_count body → FitsFields (part_header spec (part_count body) n) → header_at (part_datagram spec body n).bytes ≡ Ok (part_header spec (part_count body) n, length (spelling (part_header spec (part_count body) n)))
+read-part : (spec : PartSpec) (body : List ℕ) (n : ℕ) → IsSendable spec body → FitsHeaders spec → n < part_count body → header_at (part_datagram spec body n).bytes ≡ Ok (part_header spec (part_count body) n, length (spelling (part_header spec (part_count body) n)))
 unfolding part_datagram
-read-part spec body n sendable h fits =
+read-part spec body n sendable fits h =
     let header : Header = part_header spec (part_count body) n in
-    spelling_is_read header (spelling header) (piece body n) fits (record { valid = IsValid-part_header spec body n sendable h; same = refl })
+    spelling_is_read header (spelling header) (piece body n) (FitsFields-part_header spec (part_count body) n fits) (record { valid = IsValid-part_header spec body n sendable h; same = refl })
 
 -- and have its piece behind
 payload-part : (spec : PartSpec) (body : List ℕ) (n : ℕ) → drop (length (spelling (part_header spec (part_count body) n))) (part_datagram spec body n).bytes ≡ piece body n
@@ -75,14 +80,14 @@ payload-part spec body n =
 -- each piece of a body is in one datagram, and there are no others
 pub parts_are_of_the_body : PartsAreOfTheBody
 unfolding part_datagram
-parts_are_of_the_body spec body sendable = (
+parts_are_of_the_body spec body sendable fits = (
   length-parts_of spec body,
   λ n h. record {
     placed = placed-part spec body n h;
     between = (refl, refl);
     bytes = refl;
     valid = IsValid-part_header spec body n sendable h;
-    read = read-part spec body n sendable h;
+    read = read-part spec body n sendable fits h;
     payload = payload-part spec body n;
     part = IsPartOf-part_header spec body n h;
     number = number_of-part_header spec (part_count body) n;

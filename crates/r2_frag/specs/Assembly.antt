@@ -66,7 +66,8 @@ abbrev pub whole_body : PartCount → List (Option (List ℕ)) → Option (List 
 whole_body (Exactly n) pieces = if has_all n pieces then Some (joined n pieces) else None
 whole_body (AtLeast n) pieces = None
 
--- a message of which no part came
+-- a message of which no part came; it has 64 places rather than a map from number to payload, since no header can number
+-- more parts
 unfoldable pub begun : Key → Unfinished
 begun key = record { key = key; count = AtLeast 1; pieces = replicate 64 None }
 

@@ -1,6 +1,6 @@
 -- What was done to an assembly since it was empty, and which parts came under a key since it last began.
-use Rattle.std.specs.Prelude.{◌≡◌, ℕ, ◌<◌, if◌then◌else◌, List, [], ◌∷◌}
-use Rattle.std.specs.List.{Contains}
+use Rattle.std.specs.Prelude.{ℕ, ◌<◌, if◌then◌else◌, List, [], ◌∷◌, map}
+use Rattle.std.specs.List.{All, Contains}
 use Rattle.r2_header.specs.declared.header.Header.{Header}
 use Rattle.r2_frag.specs.declared.added.Added.{Added}
 use Rattle.r2_frag.specs.declared.added.Added.TheVariants.{More, Whole, Repeat, Bad, Dropped}
@@ -25,34 +25,41 @@ messages_after (Forgets key ∷ earlier) = without key (messages_after earlier)
 abbrev pub answer_after : List Step → Key → Header → List ℕ → Added
 answer_after earlier key h payload = (added (messages_after earlier) key h payload).0
 
--- the numbers with one more, where it came under this key
-abbrev pub with_number : Key → Key → ℕ → List ℕ → List ℕ
-with_number key other n numbers = if same_key other key then n ∷ numbers else numbers
+-- a part: its header and its payload
+abbrev pub Part : Type 0
+Part = Header × List ℕ
 
--- the numbers of a key, unless another one was given up or is whole and is this very key
-abbrev pub unless_given_up : Key → Key → List ℕ → List ℕ
-unless_given_up key other numbers = if same_key other key then [] else numbers
+-- the parts of a key with one more, where that came under this key
+abbrev pub with_new : Key → Key → Part → List Part → List Part
+with_new key other part parts = if same_key other key then part ∷ parts else parts
 
--- the numbers of a key's parts behind an addition under another or the same key, by its answer
-abbrev pub numbers_by : Added → Key → Key → ℕ → List ℕ → List ℕ
-numbers_by More key other n numbers = with_number key other n numbers
-numbers_by (Whole b) key other n numbers = unless_given_up key other numbers
-numbers_by (Dropped oldest) key other n numbers = with_number key other n (unless_given_up key oldest numbers)
-numbers_by Repeat key other n numbers = numbers
-numbers_by (Bad why) key other n numbers = numbers
+-- the parts of a key: none, where the key that was given up or is whole is this one
+abbrev pub unless_given_up : Key → Key → List Part → List Part
+unless_given_up key other parts = if same_key other key then [] else parts
 
--- the numbers of the parts that came under a key since it last began: finished, forgotten and dropped keys begin anew
-unfoldable pub numbers_of : Key → List Step → List ℕ
-numbers_of key [] = []
-numbers_of key (Adds other h payload ∷ earlier) =
-    numbers_by (answer_after earlier other h payload) key other (number_of h) (numbers_of key earlier)
-numbers_of key (Forgets other ∷ earlier) = unless_given_up key other (numbers_of key earlier)
+-- the parts of a key behind a part under another or the same key, by the answer to that: a part that isn't taken, or that is
+-- kept already, adds none
+abbrev pub parts_by : Added → Key → Key → Part → List Part → List Part
+parts_by More key other part parts = with_new key other part parts
+parts_by (Whole b) key other part parts = unless_given_up key other parts
+parts_by (Dropped oldest) key other part parts = with_new key other part (unless_given_up key oldest parts)
+parts_by Repeat key other part parts = parts
+parts_by (Bad why) key other part parts = parts
 
--- what is added under this key is a part of the body
-abbrev pub AddsPartsOf : List ℕ → Key → List Step → Type 0
-AddsPartsOf body key [] = Unit {0}
-AddsPartsOf body key (Adds other h payload ∷ earlier) = (other ≡ key → IsPartOf body h payload) × AddsPartsOf body key earlier
-AddsPartsOf body key (Forgets other ∷ earlier) = AddsPartsOf body key earlier
+-- the parts that were taken under a key since it last began: finished, forgotten and dropped keys begin anew
+unfoldable pub parts_under : Key → List Step → List Part
+parts_under key [] = []
+parts_under key (Adds other h payload ∷ earlier) =
+    parts_by (answer_after earlier other h payload) key other (h, payload) (parts_under key earlier)
+parts_under key (Forgets other ∷ earlier) = unless_given_up key other (parts_under key earlier)
+
+-- the numbers of parts
+abbrev pub numbers : List Part → List ℕ
+numbers parts = map (λ (part : Part). number_of part.0) parts
+
+-- each of these is a part of the body
+abbrev pub ArePartsOf : List ℕ → List Part → Type 0
+ArePartsOf body parts = All (λ (part : Part). IsPartOf body part.0 part.1) parts
 
 -- each number below the count is among these
 abbrev pub HasEach : ℕ → List ℕ → Type 0

@@ -1,9 +1,9 @@
 -- What holds of any messages, any parts and any history.
-use Rattle.std.specs.Prelude.{◌≡◌, ℕ, ◌<◌, ◌≤◌, ◌↔◌, List, [], ◌∷◌, ◌++◌, length, Some, Ok, drop}
-use Rattle.std.specs.List.{All, Contains, slice_get}
+use Rattle.std.specs.Prelude.{◌≡◌, ℕ, ◌+◌, ◌<◌, ◌≤◌, ◌^◌, ◌↔◌, List, [], ◌∷◌, ◌++◌, length, map, Some, Ok, drop}
+use Rattle.std.specs.List.{All, Contains, concat, range_with_len, slice_get}
 use Rattle.r2_header.specs.declared.header.Header.{Header}
 use Rattle.r2_header.specs.Header.{IsValid, spelling}
-use Rattle.r2_header.specs.Laws.{FitsFields}
+use Rattle.r2_header.specs.Laws.{FitsClient}
 use Rattle.r2_header.specs.Reading.{header_at}
 use Rattle.r2_frag.specs.declared.added.Added.{Added}
 use Rattle.r2_frag.specs.declared.added.Added.TheVariants.{Bad, Dropped, More, Repeat, Whole}
@@ -13,7 +13,7 @@ use Rattle.r2_frag.specs.declared.part_spec.PartSpec.{PartSpec}
 use Rattle.r2_frag.specs.declared.unfinished.Unfinished.{Unfinished}
 use Rattle.r2_frag.specs.Assembly.{added, count_said, number_of, without}
 use Rattle.r2_frag.specs.Bodies.{GivesAtOnce, GivesBody, HasOneBody, IsPartOf, IsUnfinished, KeepsBody}
-use Rattle.r2_frag.specs.Histories.{AddsPartsOf, HasEach, Step, answer_after, numbers_of}
+use Rattle.r2_frag.specs.Histories.{ArePartsOf, HasEach, Step, answer_after, numbers, parts_under}
 use Rattle.r2_frag.specs.Keys.{client_of, key_at, sender_of}
 use Rattle.r2_frag.specs.Parts.{IsSendable, carried, part_count, part_datagram, part_header, parts_of, piece}
 
@@ -62,22 +62,41 @@ abbrev pub ForgettingLeavesUnfinished : Type 0
 ForgettingLeavesUnfinished =
     (messages : List Unfinished) (key : Key) → All IsUnfinished messages → All IsUnfinished (without key messages)
 
--- where all parts added under a key are parts of one body, none of them is bad; the answer is that body exactly where the
--- part and those that came since the key last began are all its parts; and it is Repeat exactly where the part came since then
+-- a part isn't bad; the answer is the body exactly where the part and those that were taken under its key since the key last
+-- began are all parts of the body; and it is Repeat exactly where the part was taken since then
 pub record Completes (body : List ℕ) (key : Key) (earlier : List Step) (h : Header) (payload : List ℕ) : Type 0 where
   pub good : GivesBody body (answer_after earlier key h payload)
-  pub whole : (answer_after earlier key h payload ≡ Whole body) ↔ HasEach (part_count body) (number_of h ∷ numbers_of key earlier)
-  pub repeat : (answer_after earlier key h payload ≡ Repeat) ↔ Contains (numbers_of key earlier) (number_of h)
+  pub whole : (answer_after earlier key h payload ≡ Whole body) ↔ HasEach (part_count body) (number_of h ∷ numbers (parts_under key earlier))
+  pub repeat : (answer_after earlier key h payload ≡ Repeat) ↔ Contains (numbers (parts_under key earlier)) (number_of h)
 
+-- so it is where the part and those that were taken since then are parts of that body: whatever came under the key before it
+-- last began, whatever was refused, and whatever came under other keys
 abbrev pub WholeAtTheLastPart : Type 0
 WholeAtTheLastPart =
     (body : List ℕ) (key : Key) (earlier : List Step) (h : Header) (payload : List ℕ)
-    → length body ≤ 65536 → AddsPartsOf body key earlier → IsPartOf body h payload → Completes body key earlier h payload
+    → length body ≤ 65536 → ArePartsOf body (parts_under key earlier) → IsPartOf body h payload → Completes body key earlier h payload
+
+-- the pieces of a body, joined in order, are the body; there is one at least; each but the last has 1,024 bytes, and the
+-- last has at most as many, and is empty only for the empty body
+pub record IsInPieces (body : List ℕ) : Type 0 where
+  pub joined : concat (map (piece body) (range_with_len 0 (part_count body))) ≡ body
+  pub some : 1 ≤ part_count body
+  pub inner : (n : ℕ) → n + 1 < part_count body → length (piece body n) ≡ 1024
+  pub last : (n : ℕ) → n + 1 ≡ part_count body → length (piece body n) ≤ 1024
+  pub empty : (n : ℕ) → n + 1 ≡ part_count body → piece body n ≡ [] → body ≡ []
+
+abbrev pub EachBodyIsInPieces : Type 0
+EachBodyIsInPieces = (body : List ℕ) → IsInPieces body
 
 -- the key is the one that datagrams between these addresses have
 pub record IsKeyBetween (spec : PartSpec) : Type 0 where
   pub client : client_of (carried spec) spec.key.class spec.from spec.to ≡ spec.key.rid.client
   pub from : sender_of spec.key.class spec.key.rid.client spec.from ≡ spec.key.from
+
+-- the id, and the client's address where the headers carry it, fit the fields that hold them
+pub record FitsHeaders (spec : PartSpec) : Type 0 where
+  pub id : spec.key.rid.id < 2 ^ 16
+  pub client : FitsClient (carried spec)
 
 -- the datagram of a part stands at its place among those of the body: it goes between the addresses asked for, its bytes
 -- are those of a valid header and a piece and read as these, and header and piece are a part of the body
@@ -87,8 +106,7 @@ pub record IsPart (spec : PartSpec) (body : List ℕ) (n : ℕ) : Type 0 where
   pub bytes : (part_datagram spec body n).bytes ≡ spelling (part_header spec (part_count body) n) ++ piece body n
   pub valid : IsValid (part_header spec (part_count body) n)
   pub read :
-      FitsFields (part_header spec (part_count body) n)
-      → header_at (part_datagram spec body n).bytes ≡ Ok (part_header spec (part_count body) n, length (spelling (part_header spec (part_count body) n)))
+      header_at (part_datagram spec body n).bytes ≡ Ok (part_header spec (part_count body) n, length (spelling (part_header spec (part_count body) n)))
   pub payload :
       drop (length (spelling (part_header spec (part_count body) n))) (part_datagram spec body n).bytes ≡ piece body n
   pub part : IsPartOf body (part_header spec (part_count body) n) (piece body n)
@@ -98,7 +116,7 @@ pub record IsPart (spec : PartSpec) (body : List ℕ) (n : ℕ) : Type 0 where
 abbrev pub PartsAreOfTheBody : Type 0
 PartsAreOfTheBody =
     (spec : PartSpec) (body : List ℕ)
-    → IsSendable spec body → (length (parts_of spec body) ≡ part_count body) × ((n : ℕ) → n < part_count body → IsPart spec body n)
+    → IsSendable spec body → FitsHeaders spec → (length (parts_of spec body) ≡ part_count body) × ((n : ℕ) → n < part_count body → IsPart spec body n)
 
 abbrev pub PartsHaveTheKey : Type 0
 PartsHaveTheKey =

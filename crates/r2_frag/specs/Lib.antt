@@ -6,3 +6,4 @@ pub mod Bodies
 pub mod Histories
 pub mod Laws
 pub mod Sizes
+pub mod Worked

@@ -17,7 +17,8 @@ use Rattle.r2_frag.specs.declared.part_spec.PartSpec.{PartSpec}
 abbrev pub piece_size : ℕ
 piece_size = 1024
 
--- how many pieces a body has: as few as hold it, and one for the empty body
+-- how many pieces a body has: as few as hold it, and one for the empty body; no body within its limit has more than 64, and
+-- no header can number more
 unfoldable pub part_count : List ℕ → ℕ
 part_count body = max 1 ((length body + 1023) / piece_size)
 

@@ -21,6 +21,6 @@ pub enum Added {
     Repeat,
     /// The part isn't taken.
     Bad(Why),
-    /// The part is kept as the first of its message, and the message with this key was given up for it.
+    /// The part is kept as the first that came of its message, and the message with this key was given up for it.
     Dropped(Key),
 }

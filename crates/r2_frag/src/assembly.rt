@@ -57,7 +57,8 @@ impl Assembly {
 
     /// Adds a part of a message: the payload behind this header, in a datagram with this key.
     ///
-    /// Where a message begins and 256 are unfinished, the one begun first is given up.
+    /// Where a message begins and 256 are unfinished, the one begun first is given up. `Bad` and `Repeat` change nothing and
+    /// take no memory, and nor does want of memory change anything.
     pub fn add(&mut self, key: Key, header: &Header, payload: &[u8]) -> Result<Added, NoMemory>
         requires { IsValid header.now }
         ensures ok { IfOk result (λ answer. (answer, self.new) ≡ added self.old key header.now payload.now) }

@@ -13,7 +13,10 @@ pub(crate) const PIECE_SIZE: usize = 1024;
 /// How many bytes are enough for a header.
 const HEADER_ROOM: usize = 20;
 
-/// The datagrams of a body in parts, in order; an empty body is one part.
+/// The datagrams of a body in parts, in order.
+///
+/// A body has at most 61,440 bytes in a request, 65,536 in a reply and 61,442 in a RECOVER. An empty body gives one datagram,
+/// of a header alone.
 #[tactic(auto, using(crate::proofs::Headers::datagram_steps), unfolding(crate::specs::Parts::parts_of))]
 pub fn parts(alloc: Global, spec: &PartSpec, body: &[u8]) -> Result<Datagrams, NoMemory>
     requires { IsSendable spec.now body.now }
