@@ -10,7 +10,7 @@ use Rattle.hc_tops.specs.declared.setup.Setup.{Setup}
 use Rattle.hc_tops.specs.declared.member.Member.{Member}
 use Rattle.hc_tops.specs.declared.status.Status.{Status}
 use Rattle.hc_tops.specs.declared.status.Status.TheVariants.{Done, BadWords, BadScript, Memory, SourceFault, SinkFault, TurnsSpent, NotBuilt}
-use Rattle.hc_tops.specs.Script.{IsText, Refusal, Outside, Unbuilt, IsRefused, Say, AreLines, AreBuilt, after, line_turn, line_text, turns_text, fed}
+use Rattle.hc_tops.specs.Script.{IsText, Refusal, Outside, Unbuilt, Say, AreLines, IsBuilt, after, line_turn, line_text, turns_text, fed}
 use Rattle.hc_tops.specs.Playback.{Ran, Advanced, Sticks, Breaks, EndsInside, IsRefusedAs, WritesFront, StopsText, StopsPiece}
 
 fed-append : (xs ys : List (List ℕ)) → fed (xs ++ ys) ≡ fed xs ++ fed ys
@@ -44,22 +44,17 @@ turns_text-append s m (line ∷ first) second =
     ap (λ x. line_text s m line ++ x) (turns_text-append s n first second)
     ∙ sym (append_assoc (line_text s m line) (turns_text s n first) (turns_text s (after s n first) second))
 
-AreBuilt-append : (s : Setup) (m : Member) (first second : List Line) → AreBuilt s m first → AreBuilt s (after s m first) second → AreBuilt s m (first ++ second)
-unfolding after
-AreBuilt-append s m [] second a b = b
-AreBuilt-append s m (line ∷ first) second a b = (a.0, AreBuilt-append s (line_turn s m line).member first second a.1 b)
-
-pub AreLines-append : (s : Setup) (m n : Member) (xs ys : List (List ℕ)) (first second : List Line) → n ≡ after s m first
-    → AreLines s m xs first → AreLines s n ys second → AreLines s m (xs ++ ys) (first ++ second)
-AreLines-append s m n xs ys first second at a b =
+pub AreLines-append : (xs ys : List (List ℕ)) (first second : List Line)
+    → AreLines xs first → AreLines ys second → AreLines (xs ++ ys) (first ++ second)
+AreLines-append xs ys first second a b =
     record {
       each = All-append IsText xs ys a.each b.each;
       said = Say-append xs ys first second a.said b.said;
-      built = AreBuilt-append s m first second a.built (subst (λ (x : Member). AreBuilt s x second) at b.built);
+      built = All-append IsBuilt first second a.built b.built;
     }
 
-pub AreLines-none : (s : Setup) (m : Member) → AreLines s m [] []
-AreLines-none s m = record { each = λ k d h. absurd (omega (arith, h)); said = refl; built = tt }
+pub AreLines-none : AreLines [] []
+AreLines-none = record { each = λ k d h. absurd (omega (arith, h)); said = refl; built = λ k d h. absurd (omega (arith, h)) }
 
 pub turns_text-none : (s : Setup) (m : Member) → turns_text s m [] ≡ []
 unfolding turns_text
@@ -78,14 +73,14 @@ pub Ran-trans : (s : Setup) (m n o : Member) (xs ys : List (List ℕ)) (a b c : 
 Ran-trans s m n o xs ys a b c first second =
     record {
       lines = first.lines ++ second.lines;
-      known = AreLines-append s m n xs ys first.lines second.lines first.at first.known second.known;
+      known = AreLines-append xs ys first.lines second.lines first.known second.known;
       at = second.at ∙ ap (λ (x : Member). after s x second.lines) first.at ∙ sym (after-append s m first.lines second.lines);
       gave = subst (Appends a c) (written-then s m n first.lines second.lines first.at) (Appends-trans a b c _ _ first.gave second.gave);
     }
 
 Ran-none : (s : Setup) (m : Member) (a : Option (List ℕ)) → Ran s m m [] a a
 Ran-none s m a =
-    record { lines = []; known = AreLines-none s m; at = sym (after-none s m); gave = subst (Appends a a) (sym (turns_text-none s m)) (Appends-nil a) }
+    record { lines = []; known = AreLines-none; at = sym (after-none s m); gave = subst (Appends a a) (sym (turns_text-none s m)) (Appends-nil a) }
 
 -- where a piece was split, the next one is split from its rest
 split-then : (p piece piece' q tail : List ℕ) (xs ys : List (List ℕ)) → p ++ piece ≡ fed xs ++ q → q ++ piece' ≡ fed ys ++ tail
@@ -120,12 +115,12 @@ module _ (s : Setup) (m n : Member) (p q : List ℕ) (i j : ℕ) (a b c : Option
         lines = ran.lines ++ on.lines;
         bad = on.bad;
         rest = on.rest;
-        known = AreLines-append s m n gone.texts on.texts ran.lines on.lines ran.at ran.known on.known;
+        known = AreLines-append gone.texts on.texts ran.lines on.lines ran.known on.known;
         split = split-then p piece piece' q (on.bad ++ on.rest) gone.texts on.texts gone.split (on.split ∙ append_assoc (fed on.texts) on.bad on.rest)
             ∙ sym (append_assoc (fed (gone.texts ++ on.texts)) on.bad on.rest);
         one_line = on.one_line;
         nonempty = on.nonempty;
-        refused = subst (λ (x : Member). IsRefused s why x on.bad) (ap (λ (x : Member). after s x on.lines) ran.at ∙ sym (after-append s m ran.lines on.lines)) on.refused;
+        refused = on.refused;
         ends = on.ends;
         number = omega (arith, gone.number, on.number, long);
         gave = subst (Appends a c) (written-then s m n ran.lines on.lines ran.at) (Appends-trans a b c _ _ ran.gave on.gave);
@@ -138,7 +133,7 @@ module _ (s : Setup) (m n : Member) (p q : List ℕ) (i j : ℕ) (a b c : Option
         texts = gone.texts ++ on.texts;
         lines = ran.lines ++ on.lines;
         rest = on.rest;
-        known = AreLines-append s m n gone.texts on.texts ran.lines on.lines ran.at ran.known on.known;
+        known = AreLines-append gone.texts on.texts ran.lines on.lines ran.known on.known;
         split = split-then p piece piece' q on.rest gone.texts on.texts gone.split on.split;
         gave = subst (AppendsFront a c) (written-then s m n ran.lines on.lines ran.at) (AppendsFront-then a b c _ _ on.gave ran.gave);
       }
@@ -238,7 +233,7 @@ Sticks-long s m p i line a byte is other full counted =
       lines = [];
       bad = p ++ byte ∷ [];
       rest = [];
-      known = AreLines-none s m;
+      known = AreLines-none;
       split = ap (λ x. x ++ (p ++ byte ∷ [])) (sym fed-none) ∙ sym (append-nil (fed [] ++ (p ++ byte ∷ [])));
       one_line = All-push (λ b. b ≢ 10) p byte is.one_line other;
       nonempty = push-nonempty p byte;
@@ -255,7 +250,7 @@ Breaks-none s m p piece a b kept =
       texts = [];
       lines = [];
       rest = p ++ piece;
-      known = AreLines-none s m;
+      known = AreLines-none;
       split = ap (λ x. x ++ (p ++ piece)) (sym fed-none);
       gave = AppendsFront-nothing a b (turns_text s m []) kept;
     }
@@ -276,7 +271,7 @@ Breaks-text s m text a b (inr front) =
       gave = front.2;
     }
 
-Sticks-text : (s : Setup) (why : Refusal) (m : Member) (text : List ℕ) (i number line : ℕ) (a b : Option (List ℕ)) → IsText text → number ≡ i + 1 → IsRefusedAs s why m text number line a b → Sticks s why m text i line a b (10 ∷ [])
+Sticks-text : (s : Setup) (why : Refusal) (m : Member) (text : List ℕ) (i number line : ℕ) (a b : Option (List ℕ)) → IsText text → number ≡ i + 1 → IsRefusedAs why text number line a b → Sticks s why m text i line a b (10 ∷ [])
 Sticks-text s why m text i number line a b is counted h =
     let line_is = h.counted in
     record {
@@ -284,11 +279,11 @@ Sticks-text s why m text i number line a b is counted h =
       lines = [];
       bad = text;
       rest = 10 ∷ [];
-      known = AreLines-none s m;
+      known = AreLines-none;
       split = ap (λ x. (x ++ text) ++ 10 ∷ []) (sym fed-none);
       one_line = is.one_line;
       nonempty = h.nonempty;
-      refused = subst (λ (x : Member). IsRefused s why x text) (sym (after-none s m)) h.refused;
+      refused = h.refused;
       ends = inl refl;
       number = omega (arith, line_is, counted);
       gave = subst (Appends a b) (sym (turns_text-none s m)) (Appends-kept a a b [] (Appends-nil a) h.kept);

@@ -17,12 +17,14 @@ use Rattle.r2_frag.specs.Kept.{kept_with, newest}
 use Rattle.hc_tops.specs.declared.setup.Setup.{Setup}
 use Rattle.hc_tops.specs.declared.member.Member.{Member}
 use Rattle.hc_tops.specs.declared.record.Stored.{Stored}
-use Rattle.hc_tops.specs.Service.{serve, payload_of}
+use Rattle.hc_service.specs.Service.{Served, serve}
+use Rattle.hc_service.specs.State.{State, after_write, after_admission}
+use Rattle.hc_service.specs.Replies.{payload_of}
 use Rattle.hc_tops.specs.Heard.{policy_of}
 use Rattle.hc_tops.specs.Member.{AreShort, own_address}
 use Rattle.hc_tops.specs.Replies.{IsAnswer, reply_parts}
-use Rattle.hc_tops.specs.Turn.{resent, reply_of, next_payload, served_next, entry_applied, applied_one, applied_all}
-use Rattle.hc_tops.proofs.Values.{served_short}
+use Rattle.hc_tops.specs.Turn.{resent, reply_of, next_payload, served_next, passed_over, entry_applied, applied_one, applied_all}
+use Rattle.hc_tops.proofs.Values.{IsShortAnswer, served_short}
 
 -- a payload is nine bytes longer than its value
 pub length-payload_of : (index status : ℕ) (value : List ℕ) → length (payload_of index status value) ≡ length value + 9
@@ -34,44 +36,51 @@ policy_of-most Blank = omega arith
 policy_of-most Write = omega arith
 policy_of-most Read = omega arith
 
--- the payload of a reply to a short request is within its limit
-pub payload_short : (m : Member) (kind : Kind) (body : List ℕ) (index : ℕ) → AreShort m.store → length body ≤ 61440
-    → length (payload_of index (serve m.store kind body).status (serve m.store kind body).value) ≤ 65536
-payload_short m kind body index values short =
-    let answer = served_short m.store kind body values short in
-    let long = length-payload_of index (serve m.store kind body).status (serve m.store kind body).value in
-    omega (arith, long, answer.0)
+-- the payload of a reply with a short value is within its limit
+pub payload_short : (index status : ℕ) (value : List ℕ) → length value ≤ 65527 → length (payload_of index status value) ≤ 65536
+payload_short index status value short = let long = length-payload_of index status value in omega (arith, long, short)
 
 -- a member whose values and kept replies may go out
 pub record CanAnswer (m : Member) : Type 0 where
-  pub values : AreShort m.store
+  pub values : AreShort m.service.contents
   pub replies : All IsAnswer m.kept
 
 kept_by : (b : Bool) (kept : List KeptReply) (reply : KeptReply) → All IsAnswer kept → IsAnswer reply → All IsAnswer (if b then kept_with kept reply else kept)
 kept_by true kept reply all one = All-drop IsAnswer (length (kept ++ reply ∷ []) - 1024) (kept ++ reply ∷ []) (All-push IsAnswer kept reply all one)
 kept_by false kept reply all one = all
 
-served-answers : (s : Setup) (m : Member) (stored : Stored) (kind : Kind) → length stored.body ≤ 61440 → CanAnswer m
-    → CanAnswer (served_next s m stored (serve m.store kind stored.body)).member
-served-answers s m stored kind short can =
-    let served = serve m.store kind stored.body in
-    let values = can.values in
-    let answer = served_short m.store kind stored.body values short in
-    let one : IsAnswer (reply_of stored (next_payload m served)) =
-    record { limit = payload_short m kind stored.body (m.applied + 1) values short; policy = policy_of-most stored.entry.kind } in
-    record {
-      values = answer.1;
-      replies = kept_by (stored.entry.replier == s.me) m.kept (reply_of stored (next_payload m served)) can.replies one;
-    }
+module _ (s : Setup) (m : Member) (stored : Stored) (short : length stored.body ≤ 61440) (can : CanAnswer m) where
+  served-answers : (service : State) (served : Served) → IsShortAnswer served → AreShort service.contents
+      → CanAnswer (served_next s m stored service served).member
+  served-answers service served answer values =
+      let one : IsAnswer (reply_of stored (next_payload m served)) =
+      record { limit = payload_short (m.applied + 1) served.status served.value answer.value; policy = policy_of-most stored.entry.kind } in
+      record {
+        values = values;
+        replies = kept_by (stored.entry.replier == s.me) m.kept (reply_of stored (next_payload m served)) can.replies one;
+      }
 
-entry-answers : (s : Setup) (m : Member) (stored : Stored) (kind : Kind) → length stored.body ≤ 61440 → CanAnswer m → CanAnswer (entry_applied s m stored kind).member
-entry-answers s m stored Blank short can = record { values = can.values; replies = can.replies }
-entry-answers s m stored Write short can = served-answers s m stored Write short can
-entry-answers s m stored Read short can = served-answers s m stored Read short can
+  passed-answers : CanAnswer (passed_over m).member
+  passed-answers = record { values = can.values; replies = can.replies }
+
+  read_by-answers : (b : Bool) (served : Served) → IsShortAnswer served
+      → CanAnswer (if b then served_next s m stored (after_admission m.service) served else passed_over m).member
+  read_by-answers true served answer = served-answers (after_admission m.service) served answer can.values
+  read_by-answers false served answer = passed-answers
+
+  entry-answers : (kind : Kind) → CanAnswer (entry_applied s m stored kind).member
+  entry-answers Blank = passed-answers
+  entry-answers Write =
+      let served = serve m.service.contents Write stored.body in
+      let answer = served_short m.service.contents Write stored.body can.values short in
+      served-answers (after_write m.service served.contents) served answer answer.contents
+  entry-answers Read =
+      read_by-answers (stored.entry.replier == s.me) (serve m.service.contents Read stored.body)
+      (served_short m.service.contents Read stored.body can.values short)
 
 pub applied_one-answers : (s : Setup) (m : Member) (stored : Stored) → length stored.body ≤ 61440 → CanAnswer m → CanAnswer (applied_one s m stored).member
 unfolding applied_one
-applied_one-answers s m stored short can = entry-answers s m stored stored.entry.kind short can
+applied_one-answers s m stored short can = entry-answers s m stored short can stored.entry.kind
 
 pub applied_all-answers : (s : Setup) (m : Member) (entries : List Stored) → All (λ (x : Stored). length x.body ≤ 61440) entries → CanAnswer m
     → CanAnswer (applied_all s m entries).member

@@ -1,5 +1,5 @@
 -- Applying entries one after another.
-use Rattle.std.proofs.Common.{◌≡◌, ℕ, ◌+◌, List, [], ◌∷◌, ◌++◌, length, take, drop, slice_get, Some, refl, sym, ap, ◌∙◌, arith, suc, subst, append_assoc}
+use Rattle.std.proofs.Common.{◌≡◌, ℕ, ◌+◌, List, [], ◌∷◌, ◌++◌, length, take, drop, slice_get, Some, refl, sym, ap, ◌∙◌, arith, zero, suc, subst, append_assoc}
 use Rattle.std.proofs.Math.Numerals.{one-add}
 use Rattle.std.proofs.lemmas.Option.{slice_get_within, get_or_from_slice_get}
 use Rattle.std.proofs.lemmas.List.{drop_more}
@@ -9,15 +9,10 @@ use Rattle.r2_base.specs.declared.datagram.Datagram.{Datagram}
 use Rattle.hc_tops.specs.declared.member.Member.{Member}
 use Rattle.hc_tops.specs.declared.setup.Setup.{Setup}
 use Rattle.hc_tops.specs.declared.record.Stored.{Stored}
-use Rattle.hc_tops.specs.Service.{serve}
-use Rattle.hc_tops.specs.Turn.{Sent, applied_one, applied_all, entry_applied, served_next}
-
--- a request is served under its kind
-pub entry_applied-request : (s : Setup) (m : Member) (stored : Stored) (kind : Kind) → (kind ≡ Blank → ⊥)
-    → entry_applied s m stored kind ≡ served_next s m stored (serve m.store kind stored.body)
-entry_applied-request s m stored Blank asks = absurd (asks refl)
-entry_applied-request s m stored Write asks = refl
-entry_applied-request s m stored Read asks = refl
+use Rattle.std.specs.Prelude.{◌==◌, Bool, true, false, if◌then◌else◌}
+use Rattle.hc_service.specs.Service.{Served, serve}
+use Rattle.hc_service.specs.State.{State, after_admission}
+use Rattle.hc_tops.specs.Turn.{Sent, applied_one, applied_all, entry_applied, served_next, passed_over}
 
 -- what applying so many entries leaves as it was
 pub record Leaves (m n : Member) (count : ℕ) : Type 0 where
@@ -31,13 +26,23 @@ pub record Leaves (m n : Member) (count : ℕ) : Type 0 where
   pub pool : n.pool ≡ m.pool
   pub queues : n.queues ≡ m.queues
 
+served_next-leaves : (s : Setup) (m : Member) (stored : Stored) (service : State) (served : Served) → Leaves m (served_next s m stored service served).member 1
+served_next-leaves s m stored service served =
+    record { term = refl; log = refl; role = refl; commit = refl; applied = refl; pending = refl; unfinished = refl; pool = refl; queues = refl }
+
+passed_over-leaves : (m : Member) → Leaves m (passed_over m).member 1
+passed_over-leaves m =
+    record { term = refl; log = refl; role = refl; commit = refl; applied = refl; pending = refl; unfinished = refl; pool = refl; queues = refl }
+
+read_by-leaves : (b : Bool) (s : Setup) (m : Member) (stored : Stored) (served : Served)
+    → Leaves m (if b then served_next s m stored (after_admission m.service) served else passed_over m).member 1
+read_by-leaves true s m stored served = served_next-leaves s m stored (after_admission m.service) served
+read_by-leaves false s m stored served = passed_over-leaves m
+
 entry_applied-leaves : (s : Setup) (m : Member) (stored : Stored) (kind : Kind) → Leaves m (entry_applied s m stored kind).member 1
-entry_applied-leaves s m stored Blank =
-    record { term = refl; log = refl; role = refl; commit = refl; applied = refl; pending = refl; unfinished = refl; pool = refl; queues = refl }
-entry_applied-leaves s m stored Write =
-    record { term = refl; log = refl; role = refl; commit = refl; applied = refl; pending = refl; unfinished = refl; pool = refl; queues = refl }
-entry_applied-leaves s m stored Read =
-    record { term = refl; log = refl; role = refl; commit = refl; applied = refl; pending = refl; unfinished = refl; pool = refl; queues = refl }
+entry_applied-leaves s m stored Blank = passed_over-leaves m
+entry_applied-leaves s m stored Write = served_next-leaves s m stored _ (serve m.service.contents Write stored.body)
+entry_applied-leaves s m stored Read = read_by-leaves (stored.entry.replier == s.me) s m stored (serve m.service.contents Read stored.body)
 
 pub applied_one-leaves : (s : Setup) (m : Member) (stored : Stored) → Leaves m (applied_one s m stored).member 1
 unfolding applied_one
@@ -70,6 +75,23 @@ applied_all-leaves s m (stored ∷ more) =
 pub drop-at : (log : List Stored) (i : ℕ) (stored : Stored) → slice_get log i ≡ Some stored → drop i log ≡ stored ∷ drop (i + 1) log
 drop-at log i stored e =
     drop_more log i stored (slice_get_within log i stored e) ∙ ap (λ x. x ∷ drop (i + 1) log) (get_or_from_slice_get log i stored stored e)
+
+-- where the entries from an index on begin with this one, it stands there, and the others stand behind it
+pub record IsFirst (log : List Stored) (i : ℕ) (stored : Stored) (more : List Stored) : Type 0 where
+  pub there : slice_get log i ≡ Some stored
+  pub behind : drop (i + 1) log ≡ more
+
+first-of : (log : List Stored) (i : ℕ) (stored : Stored) (more : List Stored) → drop i log ≡ stored ∷ more → (slice_get log i ≡ Some stored) × (drop (suc i) log ≡ more)
+first-of [] zero stored more e = cc
+first-of [] (suc i) stored more e = cc
+first-of (x ∷ log) zero stored more e = (let same : x ≡ stored = cc in ap Some same, cc)
+first-of (x ∷ log) (suc i) stored more e = first-of log i stored more e
+
+pub is_first : (log : List Stored) (i : ℕ) (stored : Stored) (more : List Stored) → drop i log ≡ stored ∷ more → IsFirst log i stored more
+is_first log i stored more e =
+    let first = first-of log i stored more e in
+    let next : i + 1 ≡ suc i = omega arith in
+    record { there = first.0; behind = ap (λ (k : ℕ). drop k log) next ∙ first.1 }
 
 -- a batch is its first entry, and the batch behind it
 pub applied_all-next : (s : Setup) (m n : Member) (more : ℕ) (stored : Stored) → slice_get m.log m.applied ≡ Some stored

@@ -1,10 +1,10 @@
 pub mod Counts
-pub mod Maps
 pub mod Values
+pub mod Applying
+pub mod Replayed
 pub mod Answering
 pub mod ShortHearing
 pub mod Ordering
-pub mod Applying
 pub mod Sound
 pub mod Growth
 pub mod Lines
@@ -17,3 +17,4 @@ pub mod Advance
 pub mod Endings
 pub mod Replays
 pub mod Scripts
+pub mod OneThread

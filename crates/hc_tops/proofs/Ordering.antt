@@ -16,6 +16,14 @@ has_room-short log body e =
     let parts = and_parts (nat_lt (requests_of log) 1048576 && nat_le (body_bytes_of log + length body) 1073741824) (nat_lt (length log) (2 ^ 62)) e in
     ltb-true (length log) (2 ^ 62) parts.1
 
+-- it has fewer requests than a log may have
+pub has_room-few : (log : List Stored) (body : List ℕ) → has_room log body ≡ true → requests_of log < 1048576
+unfolding has_room
+has_room-few log body e =
+    let outer = and_parts (nat_lt (requests_of log) 1048576 && nat_le (body_bytes_of log + length body) 1073741824) (nat_lt (length log) (2 ^ 62)) e in
+    let inner = and_parts (nat_lt (requests_of log) 1048576) (nat_le (body_bytes_of log + length body) 1073741824) outer.0 in
+    ltb-true (requests_of log) 1048576 inner.0
+
 ordered_within : (m next : Member) (r : Request) (rest : List Request) (replier : ℕ) (b : Bool) → has_room m.log r.body ≡ b
     → (if b then Some (order_to m r rest replier) else None) ≡ Some next → length next.log ≤ 2 ^ 62
 ordered_within m next r rest replier true room e =

@@ -9,7 +9,7 @@ use Rattle.hc_tops.specs.declared.member.Member.{Member}
 use Rattle.hc_tops.specs.declared.status.Status.{Status}
 use Rattle.hc_tops.specs.declared.status.Status.TheVariants.{Done, BadWords, BadScript, Memory, SourceFault, SinkFault, TurnsSpent, NotBuilt}
 use Rattle.hc_tops.specs.Member.{begin}
-use Rattle.hc_tops.specs.Script.{AreLines, Refusal, Outside, Unbuilt, IsRefused, fed, after, turns_text, last_text, script_text}
+use Rattle.hc_tops.specs.Script.{AreLines, Refusal, Outside, Unbuilt, fed, after, turns_text, last_text, script_text}
 use Rattle.hc_tops.specs.Playback.{Advanced, EndsInside, IsRefusedAs, Sticks, StopsPiece}
 use Rattle.hc_tops.specs.Closing.{Closes, StopsEnd, WritesEnd, ending_text}
 use Rattle.hc_tops.specs.Grammar.{IsScript}
@@ -19,10 +19,10 @@ use Rattle.hc_tops.proofs.Advance.{AreLines-append, AreLines-none, turns_text-ap
 
 -- whole lines, and the beginning of another
 pub partial-of : (s : Setup) (m : Member) (rest : List ℕ) (count : ℕ) (a b : Option (List ℕ)) (taken : List ℕ) → Advanced s begin m [] rest 0 count a b taken
-    → (lines : List Line) × IsPartial s taken lines × Appends a b (turns_text s begin lines)
+    → (lines : List Line) × IsPartial taken lines × Appends a b (turns_text s begin lines)
 partial-of s m rest count a b taken gone =
     let ran = gone.ran in
-    let is : IsPartial s taken ran.lines = record { texts = gone.texts; rest = rest; known = ran.known; unfinished = gone.unfinished; split = gone.split } in
+    let is : IsPartial taken ran.lines = record { texts = gone.texts; rest = rest; known = ran.known; unfinished = gone.unfinished; split = gone.split } in
     (ran.lines, is, ran.gave)
 
 line_end : (left : Option (List ℕ)) (bad rest : List ℕ) → EndsInside bad rest → IsLineEnd left bad rest
@@ -31,10 +31,10 @@ line_end left bad (b ∷ rest) h = h
 
 -- a line that isn't run, behind what was taken before
 stuck-of : (s : Setup) (why : Refusal) (left : Option (List ℕ)) (a b : Option (List ℕ)) (taken : List ℕ) (line : ℕ) → Sticks s why begin [] 0 line a b taken
-    → (lines : List Line) × IsStuck s why left taken lines line × Appends a b (turns_text s begin lines)
+    → (lines : List Line) × IsStuck why left taken lines line × Appends a b (turns_text s begin lines)
 stuck-of s why left a b taken line h =
     let number = h.number in
-    let is : IsStuck s why left taken h.lines line =
+    let is : IsStuck why left taken h.lines line =
     record {
       texts = h.texts;
       bad = h.bad;
@@ -54,9 +54,9 @@ pub stopped-of : (s : Setup) (left : Option (List ℕ)) (a b : Option (List ℕ)
 stopped-of s left a b taken (BadScript line) h = stuck-of s Outside left a b taken line h
 stopped-of s left a b taken (NotBuilt line) h = stuck-of s Unbuilt left a b taken line h
 stopped-of s left a b taken SinkFault h =
-    let is : IsFront s taken h.lines = record { texts = h.texts; rest = h.rest; known = h.known; split = h.split } in inl (h.lines, is, h.gave)
+    let is : IsFront taken h.lines = record { texts = h.texts; rest = h.rest; known = h.known; split = h.split } in inl (h.lines, is, h.gave)
 stopped-of s left a b taken Memory h =
-    let is : IsFront s taken h.lines = record { texts = h.texts; rest = h.rest; known = h.known; split = h.split } in inl (h.lines, is, h.gave)
+    let is : IsFront taken h.lines = record { texts = h.texts; rest = h.rest; known = h.known; split = h.split } in inl (h.lines, is, h.gave)
 stopped-of s left a b taken Done h = absurd h
 stopped-of s left a b taken BadWords h = absurd h
 stopped-of s left a b taken SourceFault h = absurd h
@@ -64,13 +64,13 @@ stopped-of s left a b taken TurnsSpent h = absurd h
 
 module _ (s : Setup) (m : Member) (rest : List ℕ) (count : ℕ) (left a b c : Option (List ℕ)) (taken : List ℕ) (gone : Advanced s begin m [] rest 0 count a b taken) (ended : IsAtEnd left) where
   -- the lines of the pieces and that of the last text are the whole script
-  whole_of : (last : List Line) → AreLines s m (rest ∷ []) last → IsWhole s left taken (gone.ran.lines ++ last)
+  whole_of : (last : List Line) → AreLines (rest ∷ []) last → IsWhole left taken (gone.ran.lines ++ last)
   whole_of last known =
       let ran = gone.ran in
       record {
         texts = gone.texts;
         last = rest;
-        known = AreLines-append s begin m gone.texts (rest ∷ []) ran.lines last ran.at ran.known known;
+        known = AreLines-append gone.texts (rest ∷ []) ran.lines last ran.known known;
         split = gone.split;
         ended = ended;
       }
@@ -94,20 +94,20 @@ module _ (s : Setup) (m : Member) (rest : List ℕ) (count : ℕ) (left a b c : 
   part_of : WritesEnd s m rest b c → WritesPart s left taken a c
   part_of (inl kept) =
       let ran = gone.ran in
-      let is : IsFront s taken ran.lines = record { texts = gone.texts; rest = rest; known = ran.known; split = gone.split } in
+      let is : IsFront taken ran.lines = record { texts = gone.texts; rest = rest; known = ran.known; split = gone.split } in
       inl (ran.lines, is, AppendsFront-kept a b c (turns_text s begin ran.lines) (AppendsFront-whole a b (turns_text s begin ran.lines) ran.gave) kept)
   part_of (inr front) =
       let ran = gone.ran in
       inr (ran.lines ++ front.0, whole_of front.0 front.1, subst (AppendsFront a c) (whole_text front.0) (AppendsFront-then a b c _ _ front.2 ran.gave))
 
-  stuck_of : (why : Refusal) (line : ℕ) → IsRefusedAs s why m rest (count + 1) line b c
-      → (lines : List Line) × IsStuck s why left taken lines line × Appends a c (turns_text s begin lines)
+  stuck_of : (why : Refusal) (line : ℕ) → IsRefusedAs why rest (count + 1) line b c
+      → (lines : List Line) × IsStuck why left taken lines line × Appends a c (turns_text s begin lines)
   stuck_of why line h =
       let ran = gone.ran in
       let line_is = h.counted in
       let number = gone.number in
       let unfinished = gone.unfinished in
-      let is : IsStuck s why left taken ran.lines line =
+      let is : IsStuck why left taken ran.lines line =
       record {
         texts = gone.texts;
         bad = rest;
@@ -116,7 +116,7 @@ module _ (s : Setup) (m : Member) (rest : List ℕ) (count : ℕ) (left a b c : 
         split = gone.split ∙ sym (append-nil (fed gone.texts ++ rest));
         one_line = unfinished.one_line;
         nonempty = h.nonempty;
-        refused = subst (λ (x : Member). IsRefused s why x rest) ran.at h.refused;
+        refused = h.refused;
         ends = inl ended;
         counted = omega (arith, line_is, number);
       } in
@@ -136,7 +136,7 @@ module _ (s : Setup) (m : Member) (rest : List ℕ) (count : ℕ) (left a b c : 
 -- nothing was taken, and nothing was written
 pub nothing-of : (s : Setup) (left a : Option (List ℕ)) → IsReplay s left left a a Memory
 nothing-of s left a =
-    let is : IsFront s [] [] = record { texts = []; rest = []; known = AreLines-none s begin; split = sym (append-nil (fed []) ∙ fed-none) } in
+    let is : IsFront [] [] = record { texts = []; rest = []; known = AreLines-none; split = sym (append-nil (fed []) ∙ fed-none) } in
     record { taken = []; took = Consumes-nil left; did = inl ([], is, AppendsFront-nothing a a (turns_text s begin []) (Keeps-refl a)) }
 
 -- a script in its grammar is run to its end, unless something failed or a line isn't built

@@ -1,5 +1,5 @@
 -- The text of one line, run by a member.
-use Rattle.std.proofs.Common.{◌≡◌, ◌≢◌, ℕ, true, List, [], ◌∷◌, length, Option, Some, None, refl, sym, ap, subst, ◌∙◌, arith, append-nil, inr}
+use Rattle.std.proofs.Common.{◌≡◌, ◌≢◌, ℕ, true, List, [], ◌∷◌, length, Option, Some, refl, sym, ap, subst, ◌∙◌, arith, append-nil, inr}
 use Rattle.std.specs.Prelude.{All, Bool, false, ◌==◌}
 use Rattle.std.proofs.lemmas.Bool.{eqb-true}
 use Rattle.std.proofs.lemmas.List.{nil_from_length}
@@ -8,13 +8,14 @@ use Rattle.std.specs.Io.KnownBytes.{Appends}
 use Rattle.r2_link.specs.Streams.{AppendsFront}
 use Rattle.r2_link.proofs.Streams.{Appends-nil}
 use Rattle.hc_tops.specs.declared.line.Line.{Line}
+use Rattle.hc_tops.specs.declared.line.Line.TheVariants.{Tick, Quiet, In, Restart}
 use Rattle.hc_tops.specs.declared.setup.Setup.{Setup}
 use Rattle.hc_tops.specs.declared.member.Member.{Member}
 use Rattle.hc_tops.specs.declared.status.Status.{Status}
 use Rattle.hc_tops.specs.declared.status.Status.TheVariants.{Done, BadWords, BadScript, Memory, SourceFault, SinkFault, TurnsSpent, NotBuilt}
 use Rattle.hc_tops.specs.Line.{IsLine}
 use Rattle.hc_tops.specs.Stops.{StopsBySink}
-use Rattle.hc_tops.specs.Script.{IsText, Say, AreLines, after, line_turn, turn_at, line_text, turns_text, event_of, is_taken, is_run, is_built}
+use Rattle.hc_tops.specs.Script.{IsText, Say, AreLines, after, line_turn, turn_at, line_text, turns_text, event_of, IsBuilt}
 use Rattle.hc_tops.specs.Turn.{Reacted, turned}
 use Rattle.r2_base.specs.declared.event.Event.{Event}
 use Rattle.r2_base.specs.declared.datagram.Datagram.{Datagram}
@@ -26,21 +27,25 @@ use Rattle.hc_tops.specs.Playback.{Ran, StopsText, HasSinkCause}
 one_is_text : (text : List ℕ) → IsText text → All IsText (text ∷ [])
 one_is_text text is = All-push IsText [] text (λ k d h. absurd (omega (arith, h))) is
 
+-- one line that can be run is a list of such lines
+one_is_built : (line : Line) → IsBuilt line → All IsBuilt (line ∷ [])
+one_is_built line is = All-push IsBuilt [] line (λ k d h. absurd (omega (arith, h))) is
+
 -- an empty text is no line
 pub ran-nothing : (s : Setup) (m : Member) (text : List ℕ) (old : Option (List ℕ)) → IsText text → text ≡ [] → Ran s m m (text ∷ []) old old
 unfolding after turns_text
 ran-nothing s m text old is none =
-    let known : AreLines s m (text ∷ []) [] =
-    record { each = one_is_text text is; said = subst (λ x. Say (x ∷ []) []) (sym none) refl; built = tt } in
+    let known : AreLines (text ∷ []) [] =
+    record { each = one_is_text text is; said = subst (λ x. Say (x ∷ []) []) (sym none) refl; built = λ k d h. absurd (omega (arith, h)) } in
     record { lines = []; known = known; at = refl; gave = Appends-nil old }
 
 said_one : (text : List ℕ) (line : Line) → text ≢ [] → IsLine text line → Say (text ∷ []) (line ∷ [])
 said_one [] line some is = absurd (some refl)
 said_one (b ∷ text) line some is = (is, refl)
 
--- a text that is a line which a member can run
-pub one_line : (s : Setup) (m : Member) (text : List ℕ) (line : Line) → IsText text → text ≢ [] → IsLine text line → is_built s m line ≡ true → AreLines s m (text ∷ []) (line ∷ [])
-one_line s m text line short some is built = record { each = one_is_text text short; said = said_one text line some is; built = (built, tt) }
+-- a text that is a line which can be run
+pub one_line : (text : List ℕ) (line : Line) → IsText text → text ≢ [] → IsLine text line → IsBuilt line → AreLines (text ∷ []) (line ∷ [])
+one_line text line short some is built = record { each = one_is_text text short; said = said_one text line some is; built = one_is_built line built }
 
 -- the turn of a line that has this event
 line_turn-event : (s : Setup) (m : Member) (line : Line) (event : Event) → event_of s line ≡ Some event → line_turn s m line ≡ turned s m event
@@ -56,13 +61,12 @@ after-one : (s : Setup) (m : Member) (line : Line) (t : Reacted) → line_turn s
 unfolding after
 after-one s m line t is = ap (λ (x : Reacted). x.member) is
 
--- a line whose event a member can take can be run
-pub built_line : (s : Setup) (m : Member) (line : Line) (event : Event) (b : Bool) → event_of s line ≡ Some event → is_taken m event ≡ b → is_built s m line ≡ b
-built_line s m line event b is taken = ap (is_run m) is ∙ taken
-
--- a line without an event can't be run yet
-pub unbuilt_line : (s : Setup) (m : Member) (line : Line) → event_of s line ≡ None → is_built s m line ≡ false
-unbuilt_line s m line is = ap (is_run m) is
+-- a line with an event can be run
+pub built_line : (s : Setup) (line : Line) (event : Event) → event_of s line ≡ Some event → IsBuilt line
+built_line s Tick event is = tt
+built_line s Quiet event is = tt
+built_line s (In from bytes) event is = tt
+built_line s Restart event is = cc
 
 module _ (s : Setup) (m : Member) (text : List ℕ) (line : Line) (event : Event) (is : event_of s line ≡ Some event) (stored : Option Record) (sends : List Datagram)
     (stored_is : stored ≡ (turned s m event).stored) (sends_is : sends ≡ (turned s m event).sends) where
@@ -74,7 +78,7 @@ module _ (s : Setup) (m : Member) (text : List ℕ) (line : Line) (event : Event
       ∙ sym (turns_text-one s m line (turned s m event) (line_turn-event s m line event is))
 
   -- the member ran the line
-  pub ran-line : (n : Member) (old new : Option (List ℕ)) → AreLines s m (text ∷ []) (line ∷ [])
+  pub ran-line : (n : Member) (old new : Option (List ℕ)) → AreLines (text ∷ []) (line ∷ [])
       → n ≡ (turned s m event).member → Appends old new (turn_text stored sends) → Ran s m n (text ∷ []) old new
   ran-line n old new known at gave =
       record {
@@ -86,7 +90,7 @@ module _ (s : Setup) (m : Member) (text : List ℕ) (line : Line) (event : Event
 
   -- printing what a line prints was cut short
   pub stops-line : (number : ℕ) (old new : Option (List ℕ)) (faults faults' : ℕ) (status : Status)
-      → StopsBySink faults faults' status → AreLines s m (text ∷ []) (line ∷ [])
+      → StopsBySink faults faults' status → AreLines (text ∷ []) (line ∷ [])
       → AppendsFront old new (turn_text stored sends) → StopsText s m text number old new status
   stops-line number old new f f' SinkFault why known front = inr (line ∷ [], known, subst (AppendsFront old new) one_text front)
   stops-line number old new f f' Memory why known front = inr (line ∷ [], known, subst (AppendsFront old new) one_text front)

@@ -10,7 +10,8 @@ use Rattle.hc_tops.specs.declared.member.Role.{Role}
 use Rattle.hc_tops.specs.declared.member.Role.TheVariants.{Follower, Candidate, Leader}
 use Rattle.hc_tops.specs.declared.request.Request.{Request}
 use Rattle.hc_tops.specs.declared.record.Stored.{Stored}
-use Rattle.hc_tops.specs.Durable.{has_room, stands_in, blank_of}
+use Rattle.hc_tops.specs.Durable.{has_room, stands_in, blank_of, requests_of}
+use Rattle.hc_tops.specs.Operations.{IsReplayed}
 use Rattle.hc_tops.specs.Pool.{waits_in}
 use Rattle.hc_tops.specs.Queues.{choose}
 use Rattle.std.specs.FinMap as finite
@@ -21,17 +22,29 @@ use Rattle.hc_tops.specs.declared.heard.Heard.{Heard}
 use Rattle.hc_tops.specs.declared.heard.Heard.TheVariants.{Nothing, Whole, Time}
 use Rattle.hc_tops.specs.Heard.{IsShortHeard}
 use Rattle.hc_tops.specs.Turn.{batched, due, batch_of, applied_all, reported, finished, pooled, request_row, answered_again, stays, hearing, waited, is_impatient, patience, stood, won, ticked, row, tick_row, order_to, order_from, order_next, gone_on, ordered, ordering, counting, settled}
-use Rattle.std.proofs.Common.{length-take}
+use Rattle.std.proofs.Common.{length-take, take, take-append-drop}
+use Rattle.std.proofs.lemmas.List.{take-append-le}
 use Rattle.hc_tops.proofs.Applying.{Leaves, applied_all-leaves}
 use Rattle.hc_tops.proofs.Answering.{CanAnswer, applied_all-answers}
 use Rattle.hc_tops.proofs.ShortHearing.{hear_short}
-use Rattle.hc_tops.proofs.Ordering.{has_room-short}
+use Rattle.hc_tops.proofs.Ordering.{has_room-short, has_room-few}
+use Rattle.hc_tops.proofs.Counts.{requests_of_more, one_request}
+use Rattle.hc_tops.proofs.Replayed.{replayed-begin, applied_all-replayed}
 use Rattle.r2_frag.specs.Sizes.{IsShort}
 use Rattle.r2_base.specs.declared.event.Event.{Event}
 
 -- an empty map has no values
 no_values : AreShort finite.empty
 no_values = λ key value e. let none = finite.get-empty {K = List ℕ} {X = List ℕ} (slice_cmp nat_cmp) key in cc
+
+-- a log without entries has no requests
+nothing_asked : requests_of [] ≤ 1048576
+unfolding requests_of
+nothing_asked = omega arith
+
+-- an entry more at the end of a log leaves its front
+front-stays : (log : List Stored) (stored : Stored) (n : ℕ) → n ≤ length log → take n log ≡ take n (log ++ stored ∷ [])
+front-stays log stored n within = sym (take-append-le n log (stored ∷ []) within)
 
 -- a member that has nothing is sound
 pub sound-begin : (s : Setup) → IsSound s begin
@@ -46,6 +59,8 @@ sound-begin s =
       pool_bodies = λ k d h. absurd (omega (arith, h));
       unfinished = λ k d h. absurd (omega (arith, h));
       values = no_values;
+      service = replayed-begin s.me;
+      requests = nothing_asked;
       replies = λ k d h. absurd (omega (arith, h));
       queued = λ leads. cc;
     }
@@ -63,6 +78,8 @@ module _ (s : Setup) where
         pool_bodies = h.pool_bodies;
         unfinished = h.unfinished;
         values = h.values;
+        service = h.service;
+        requests = h.requests;
         replies = h.replies;
         queued = h.queued;
       }
@@ -87,6 +104,8 @@ module _ (s : Setup) where
         pool_bodies = h.pool_bodies;
         unfinished = h.unfinished;
         values = h.values;
+        service = h.service;
+        requests = h.requests;
         replies = h.replies;
         queued = λ leads. length-set m.queues s.me (filter (λ index. nat_lt m.applied index) (slice_index_or m.queues s.me [])) ∙ h.queued leads;
       }
@@ -109,6 +128,8 @@ module _ (s : Setup) where
         pool_bodies = All-push (λ (x : Request). length x.body ≤ 61440) m.pool r h.pool_bodies short;
         unfinished = h.unfinished;
         values = h.values;
+        service = h.service;
+        requests = h.requests;
         replies = h.replies;
         queued = h.queued;
       }
@@ -143,6 +164,8 @@ module _ (s : Setup) where
         pool_bodies = h.pool_bodies;
         unfinished = heard.1;
         values = h.values;
+        service = h.service;
+        requests = h.requests;
         replies = h.replies;
         queued = h.queued;
       }
@@ -163,6 +186,8 @@ module _ (s : Setup) where
         pool_bodies = relieved (nat_le 4096 (length m.pool)) m.pool h.pool_bodies;
         unfinished = h.unfinished;
         values = h.values;
+        service = h.service;
+        requests = h.requests;
         replies = h.replies;
         queued = h.queued;
       }
@@ -179,6 +204,8 @@ module _ (s : Setup) where
         pool_bodies = h.pool_bodies;
         unfinished = h.unfinished;
         values = h.values;
+        service = h.service;
+        requests = h.requests;
         replies = h.replies;
         queued = λ leads. cc;
       }
@@ -187,6 +214,8 @@ module _ (s : Setup) where
   unfolding won
   sound-won m short h =
       let long = length-append m.log (blank_of m.term ∷ []) in
+      let front = front-stays m.log (blank_of m.term) m.applied (omega (arith, h.batch, h.committed)) in
+      let more = requests_of_more m.log (blank_of m.term) in
       record {
         batch = h.batch;
         committed = omega (arith, long, h.committed);
@@ -196,6 +225,8 @@ module _ (s : Setup) where
         pool_bodies = h.pool_bodies;
         unfinished = h.unfinished;
         values = h.values;
+        service = subst (λ (l : List Stored). IsReplayed s.me l m.service) front h.service;
+        requests = omega (arith, more, h.requests);
         replies = h.replies;
         queued = λ leads. length-replicate (length s.members) [];
       }
@@ -226,6 +257,10 @@ module _ (s : Setup) where
       let ordered : Stored = record { entry = record { term = m.term; kind = r.kind; rid = r.rid; replier = replier }; body = r.body } in
       let long = length-append m.log (ordered ∷ []) in
       let short = has_room-short m.log r.body room in
+      let few = has_room-few m.log r.body room in
+      let front = front-stays m.log ordered m.applied (omega (arith, h.batch, h.committed)) in
+      let more = requests_of_more m.log ordered in
+      let one = one_request r.kind in
       let pool_bodies = subst (λ pool. All (λ (x : Request). length x.body ≤ 61440) pool) is h.pool_bodies in
       record {
         batch = h.batch;
@@ -236,6 +271,8 @@ module _ (s : Setup) where
         pool_bodies = All-tail (λ (x : Request). length x.body ≤ 61440) r rest pool_bodies;
         unfinished = h.unfinished;
         values = h.values;
+        service = subst (λ (l : List Stored). IsReplayed s.me l m.service) front h.service;
+        requests = omega (arith, more, few, one);
         replies = h.replies;
         queued = λ leads. length-set m.queues replier (slice_index_or m.queues replier [] ++ (length m.log + 1) ∷ []) ∙ h.queued leads;
       }
@@ -282,6 +319,8 @@ module _ (s : Setup) where
         pool_bodies = h.pool_bodies;
         unfinished = h.unfinished;
         values = h.values;
+        service = h.service;
+        requests = h.requests;
         replies = h.replies;
         queued = h.queued;
       }
@@ -302,8 +341,9 @@ module _ (s : Setup) where
       sound-batched (counting all all.role) (sound-counting all all.role (sound-ordering keep m m.role h))
 
   -- the entries of a batch can be applied and counted
-  sound-applied : (m n : Member) → IsSound s m → Leaves m n m.pending → CanAnswer n → IsSound s (record n { pending = 0 })
-  sound-applied m n h left can =
+  sound-applied : (m n : Member) → IsSound s m → Leaves m n m.pending → CanAnswer n → IsReplayed s.me (take n.applied n.log) n.service
+      → IsSound s (record n { pending = 0 })
+  sound-applied m n h left can replayed =
       let size = ap length left.log in
       record {
         batch = omega (arith, h.batch, left.applied, left.commit);
@@ -314,6 +354,8 @@ module _ (s : Setup) where
         pool_bodies = subst (λ pool. All (λ (x : Request). length x.body ≤ 61440) pool) (sym left.pool) h.pool_bodies;
         unfinished = subst (All IsShort) (sym left.unfinished) h.unfinished;
         values = can.values;
+        service = replayed;
+        requests = subst (λ log. requests_of log ≤ 1048576) (sym left.log) h.requests;
         replies = can.replies;
         queued = λ leads. ap length left.queues ∙ h.queued (sym left.role ∙ leads);
       }
@@ -328,9 +370,12 @@ module _ (s : Setup) where
   -- a batch that was applied leaves a sound member, once it is empty
   pub sound-batch : (m : Member) → IsSound s m → IsSound s (record (applied_all s m (batch_of m)).member { pending = 0 })
   sound-batch m h =
-      sound-applied m (applied_all s m (batch_of m)).member h
-      (subst (Leaves m (applied_all s m (batch_of m)).member) (length-batch_of m (omega (arith, h.batch, h.committed))) (applied_all-leaves s m (batch_of m)))
-      (applied_all-answers s m (batch_of m) (batch-short m h) (record { values = h.values; replies = h.replies }))
+      let entries = batch_of m in
+      let at = sym (take-append-drop m.pending (drop m.applied m.log)) in
+      sound-applied m (applied_all s m entries).member h
+      (subst (Leaves m (applied_all s m entries).member) (length-batch_of m (omega (arith, h.batch, h.committed))) (applied_all-leaves s m entries))
+      (applied_all-answers s m entries (batch-short m h) (record { values = h.values; replies = h.replies }))
+      (applied_all-replayed s m entries (drop m.pending (drop m.applied m.log)) at h.service)
 
   pub sound-finished : (m : Member) → IsSound s m → IsSound s (finished s m).member
   unfolding finished

@@ -17,18 +17,18 @@ ending_text s m lines = turns_text s m lines ++ last_text s (after s m lines)
 -- the last text was run as a line, and all that was committed is applied
 pub record Closes (s : Setup) (m : Member) (text : List ℕ) (old new : Option (List ℕ)) : Type 0 where
   pub lines : List Line
-  pub known : AreLines s m (text ∷ []) lines
+  pub known : AreLines (text ∷ []) lines
   pub gave : Appends old new (ending_text s m lines)
 
 -- nothing was written at the end, or a front of what is to be
 abbrev pub WritesEnd : Setup → Member → List ℕ → Option (List ℕ) → Option (List ℕ) → Type 0
 WritesEnd s m text old new =
-    Keeps old new ⊎ ((lines : List Line) × AreLines s m (text ∷ []) lines × AppendsFront old new (ending_text s m lines))
+    Keeps old new ⊎ ((lines : List Line) × AreLines (text ∷ []) lines × AppendsFront old new (ending_text s m lines))
 
 -- why the end wasn't run whole
 abbrev pub StopsEnd : Setup → Member → List ℕ → ℕ → Option (List ℕ) → Option (List ℕ) → Status → Type 0
-StopsEnd s m text number old new (BadScript line) = IsRefusedAs s Outside m text number line old new
-StopsEnd s m text number old new (NotBuilt line) = IsRefusedAs s Unbuilt m text number line old new
+StopsEnd s m text number old new (BadScript line) = IsRefusedAs Outside text number line old new
+StopsEnd s m text number old new (NotBuilt line) = IsRefusedAs Unbuilt text number line old new
 StopsEnd s m text number old new SinkFault = WritesEnd s m text old new
 StopsEnd s m text number old new Memory = WritesEnd s m text old new
 StopsEnd s m text number old new Done = ⊥

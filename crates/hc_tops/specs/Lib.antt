@@ -1,6 +1,5 @@
-pub mod Service
 pub mod Durable
-pub mod Command
+pub mod Operations
 pub mod Queues
 pub mod Pool
 pub mod Replies
@@ -18,3 +17,4 @@ pub mod Playback
 pub mod Closing
 pub mod Run
 pub mod Grammar
+pub mod Laws

@@ -1,12 +1,15 @@
 -- A member of a group as it begins, and what holds of every member that can be reached.
-use Rattle.std.specs.Prelude.{◌≡◌, ◌+◌, ◌≤◌, ◌^◌, ℕ, List, [], length, None, Some, All, slice_index_or}
+use Rattle.std.specs.Prelude.{◌≡◌, ◌+◌, ◌≤◌, ◌^◌, ℕ, List, [], length, take, None, Some, All, slice_index_or}
 use Rattle.std.specs.FinMap as map
 use Rattle.r2_base.specs.declared.addr.Addr.{Addr}
 use Rattle.hc_tops.specs.declared.setup.Setup.{Setup}
 use Rattle.hc_tops.specs.declared.member.Member.{Member}
 use Rattle.hc_tops.specs.declared.member.Role.TheVariants.{Follower, Leader}
 use Rattle.r2_frag.specs.Sizes.{IsShort}
-use Rattle.hc_tops.specs.Service.{Contents}
+use Rattle.hc_service.specs.Service.{Contents}
+use Rattle.hc_service.specs.State.{new_state}
+use Rattle.hc_tops.specs.Durable.{requests_of}
+use Rattle.hc_tops.specs.Operations.{IsReplayed}
 use Rattle.hc_tops.specs.Replies.{IsAnswer}
 
 -- a member that has nothing yet
@@ -24,7 +27,7 @@ begin =
       pool = [];
       term_start = 0;
       queues = [];
-      store = map.empty;
+      service = new_state;
       kept = [];
       silent = 0;
     }
@@ -33,7 +36,7 @@ begin =
 abbrev pub own_address : Setup → Addr
 own_address s = slice_index_or s.members s.me (record { ip = 0; port = 0 })
 
--- each value is short enough for a reply
+-- each value fits the body of a request
 abbrev pub AreShort : Contents → Type 0
 AreShort contents = (key value : List ℕ) → map.get contents key ≡ Some value → length value ≤ 61440
 
@@ -46,6 +49,8 @@ pub record IsSound (s : Setup) (m : Member) : Type 0 where
   pub bodies : All (λ stored. length stored.body ≤ 61440) m.log
   pub pool_bodies : All (λ r. length r.body ≤ 61440) m.pool
   pub unfinished : All IsShort m.unfinished
-  pub values : AreShort m.store
+  pub values : AreShort m.service.contents
+  pub service : IsReplayed s.me (take m.applied m.log) m.service
+  pub requests : requests_of m.log ≤ 1048576
   pub replies : All IsAnswer m.kept
   pub queued : m.role ≡ Leader → length m.queues ≡ length s.members

@@ -13,26 +13,26 @@ use Rattle.hc_tops.specs.Script.{IsText, AreLines, Refusal, Outside, Unbuilt, Is
 -- the texts were run as lines: the member behind them, and what they printed
 pub record Ran (s : Setup) (m n : Member) (texts : List (List ℕ)) (old new : Option (List ℕ)) : Type 0 where
   pub lines : List Line
-  pub known : AreLines s m texts lines
+  pub known : AreLines texts lines
   pub at : n ≡ after s m lines
   pub gave : Appends old new (turns_text s m lines)
 
 -- nothing was written for the text, or a front of what it prints as a line
 abbrev pub WritesFront : Setup → Member → List ℕ → Option (List ℕ) → Option (List ℕ) → Type 0
 WritesFront s m text old new =
-    Keeps old new ⊎ ((lines : List Line) × AreLines s m (text ∷ []) lines × AppendsFront old new (turns_text s m lines))
+    Keeps old new ⊎ ((lines : List Line) × AreLines (text ∷ []) lines × AppendsFront old new (turns_text s m lines))
 
--- the text with this number isn't run by the member, and nothing was written
-pub record IsRefusedAs (s : Setup) (why : Refusal) (m : Member) (text : List ℕ) (number line : ℕ) (old new : Option (List ℕ)) : Type 0 where
+-- the text with this number isn't run, and nothing was written
+pub record IsRefusedAs (why : Refusal) (text : List ℕ) (number line : ℕ) (old new : Option (List ℕ)) : Type 0 where
   pub counted : line ≡ number
   pub nonempty : text ≢ []
-  pub refused : IsRefused s why m text
+  pub refused : IsRefused why text
   pub kept : Keeps old new
 
 -- why the text with this number wasn't run as a line
 abbrev pub StopsText : Setup → Member → List ℕ → ℕ → Option (List ℕ) → Option (List ℕ) → Status → Type 0
-StopsText s m text number old new (BadScript line) = IsRefusedAs s Outside m text number line old new
-StopsText s m text number old new (NotBuilt line) = IsRefusedAs s Unbuilt m text number line old new
+StopsText s m text number old new (BadScript line) = IsRefusedAs Outside text number line old new
+StopsText s m text number old new (NotBuilt line) = IsRefusedAs Unbuilt text number line old new
 StopsText s m text number old new SinkFault = WritesFront s m text old new
 StopsText s m text number old new Memory = WritesFront s m text old new
 StopsText s m text number old new Done = ⊥
@@ -59,11 +59,11 @@ pub record Sticks (s : Setup) (why : Refusal) (m : Member) (before : List ℕ) (
   pub lines : List Line
   pub bad : List ℕ
   pub rest : List ℕ
-  pub known : AreLines s m texts lines
+  pub known : AreLines texts lines
   pub split : before ++ piece ≡ fed texts ++ bad ++ rest
   pub one_line : All (λ b. b ≢ 10) bad
   pub nonempty : bad ≢ []
-  pub refused : IsRefused s why (after s m lines) bad
+  pub refused : IsRefused why bad
   pub ends : EndsInside bad rest
   pub number : line ≡ count + length texts + 1
   pub gave : Appends old new (turns_text s m lines)
@@ -73,7 +73,7 @@ pub record Breaks (s : Setup) (m : Member) (before : List ℕ) (old new : Option
   pub texts : List (List ℕ)
   pub lines : List Line
   pub rest : List ℕ
-  pub known : AreLines s m texts lines
+  pub known : AreLines texts lines
   pub split : before ++ piece ≡ fed texts ++ rest
   pub gave : AppendsFront old new (turns_text s m lines)
 

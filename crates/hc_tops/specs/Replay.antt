@@ -7,7 +7,7 @@ use Rattle.hc_tops.specs.declared.setup.Setup.{Setup}
 use Rattle.hc_tops.specs.declared.status.Status.{Status}
 use Rattle.hc_tops.specs.declared.status.Status.TheVariants.{Done, BadWords, BadScript, Memory, SourceFault, SinkFault, TurnsSpent, NotBuilt}
 use Rattle.hc_tops.specs.Member.{begin}
-use Rattle.hc_tops.specs.Script.{IsText, AreLines, Refusal, Outside, Unbuilt, IsRefused, fed, after, turns_text, script_text}
+use Rattle.hc_tops.specs.Script.{IsText, AreLines, Refusal, Outside, Unbuilt, IsRefused, fed, turns_text, script_text}
 
 -- a group of one member, without an aggregator
 pub record IsAlone (s : Setup) : Type 0 where
@@ -20,18 +20,18 @@ pub record IsAlone (s : Setup) : Type 0 where
   pub election_high : s.election ≤ 1000
 
 -- the whole script was taken, its last line with an end or without
-pub record IsWhole (s : Setup) (left : Option (List ℕ)) (taken : List ℕ) (lines : List Line) : Type 0 where
+pub record IsWhole (left : Option (List ℕ)) (taken : List ℕ) (lines : List Line) : Type 0 where
   pub texts : List (List ℕ)
   pub last : List ℕ
-  pub known : AreLines s begin (texts ++ last ∷ []) lines
+  pub known : AreLines (texts ++ last ∷ []) lines
   pub split : taken ≡ fed texts ++ last
   pub ended : IsAtEnd left
 
 -- whole lines were taken, and perhaps the beginning of another
-pub record IsPartial (s : Setup) (taken : List ℕ) (lines : List Line) : Type 0 where
+pub record IsPartial (taken : List ℕ) (lines : List Line) : Type 0 where
   pub texts : List (List ℕ)
   pub rest : List ℕ
-  pub known : AreLines s begin texts lines
+  pub known : AreLines texts lines
   pub unfinished : IsText rest
   pub split : taken ≡ fed texts ++ rest
 
@@ -41,41 +41,41 @@ IsLineEnd left line (b ∷ rest) = (b ≡ 10) ⊎ (8192 < length line)
 IsLineEnd left line [] = IsAtEnd left ⊎ (8192 < length line)
 
 -- behind these lines stands one that isn't run, the one with this number
-pub record IsStuck (s : Setup) (why : Refusal) (left : Option (List ℕ)) (taken : List ℕ) (lines : List Line) (number : ℕ) : Type 0 where
+pub record IsStuck (why : Refusal) (left : Option (List ℕ)) (taken : List ℕ) (lines : List Line) (number : ℕ) : Type 0 where
   pub texts : List (List ℕ)
   pub bad : List ℕ
   pub rest : List ℕ
-  pub known : AreLines s begin texts lines
+  pub known : AreLines texts lines
   pub split : taken ≡ fed texts ++ bad ++ rest
   pub one_line : All (λ b. b ≢ 10) bad
   pub nonempty : bad ≢ []
-  pub refused : IsRefused s why (after s begin lines) bad
+  pub refused : IsRefused why bad
   pub ends : IsLineEnd left bad rest
   pub counted : number ≡ length texts + 1
 
 -- some lines of what was taken, the first ones
-pub record IsFront (s : Setup) (taken : List ℕ) (lines : List Line) : Type 0 where
+pub record IsFront (taken : List ℕ) (lines : List Line) : Type 0 where
   pub texts : List (List ℕ)
   pub rest : List ℕ
-  pub known : AreLines s begin texts lines
+  pub known : AreLines texts lines
   pub split : taken ≡ fed texts ++ rest
 
 -- a front of what these lines print was written, or of what the whole script prints where its end was reached
 abbrev pub WritesPart : Setup → Option (List ℕ) → List ℕ → Option (List ℕ) → Option (List ℕ) → Type 0
 WritesPart s left taken old new =
-    ((lines : List Line) × IsFront s taken lines × AppendsFront old new (turns_text s begin lines))
-    ⊎ ((lines : List Line) × IsWhole s left taken lines × AppendsFront old new (script_text s lines))
+    ((lines : List Line) × IsFront taken lines × AppendsFront old new (turns_text s begin lines))
+    ⊎ ((lines : List Line) × IsWhole left taken lines × AppendsFront old new (script_text s lines))
 
 -- what was taken and what was written, by the status: what the source has left, what was taken, what the sink had and has
 abbrev pub Replays : Setup → Option (List ℕ) → List ℕ → Option (List ℕ) → Option (List ℕ) → Status → Type 0
-Replays s left taken old new Done = (lines : List Line) × IsWhole s left taken lines × Appends old new (script_text s lines)
+Replays s left taken old new Done = (lines : List Line) × IsWhole left taken lines × Appends old new (script_text s lines)
 Replays s left taken old new (BadScript number) =
-    (lines : List Line) × IsStuck s Outside left taken lines number × Appends old new (turns_text s begin lines)
+    (lines : List Line) × IsStuck Outside left taken lines number × Appends old new (turns_text s begin lines)
 Replays s left taken old new (NotBuilt number) =
-    (lines : List Line) × IsStuck s Unbuilt left taken lines number × Appends old new (turns_text s begin lines)
-Replays s left taken old new SourceFault = (lines : List Line) × IsPartial s taken lines × Appends old new (turns_text s begin lines)
+    (lines : List Line) × IsStuck Unbuilt left taken lines number × Appends old new (turns_text s begin lines)
+Replays s left taken old new SourceFault = (lines : List Line) × IsPartial taken lines × Appends old new (turns_text s begin lines)
 Replays s left taken old new TurnsSpent =
-    (lines : List Line) × IsPartial s taken lines × Appends old new (turns_text s begin lines) × (length taken ≡ 2 ^ 56)
+    (lines : List Line) × IsPartial taken lines × Appends old new (turns_text s begin lines) × (length taken ≡ 2 ^ 56)
 Replays s left taken old new SinkFault = WritesPart s left taken old new
 Replays s left taken old new Memory = WritesPart s left taken old new
 Replays s left taken old new BadWords = ⊥

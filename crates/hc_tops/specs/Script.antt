@@ -1,5 +1,5 @@
 -- A script as a list of lines, and what its replay prints.
-use Rattle.std.specs.Prelude.{◌≡◌, ◌≢◌, ℕ, ◌-◌, ◌≤◌, ◌==◌, ◌||◌, Bool, true, false, not, if◌then◌else◌, suc, zero, List, [], ◌∷◌, ◌++◌, length, All, Option, Some, None}
+use Rattle.std.specs.Prelude.{◌≡◌, ◌≢◌, ℕ, ◌-◌, ◌≤◌, ◌==◌, if◌then◌else◌, suc, zero, List, [], ◌∷◌, ◌++◌, length, All, Option, Some, None}
 use Rattle.std.specs.List.{flat_map}
 use Rattle.r2_base.specs.declared.event.Event.{Event}
 use Rattle.r2_base.specs.declared.event.Event.TheVariants.{Datagram as DatagramEvent, Tick as TickEvent, Quiet as QuietEvent}
@@ -8,9 +8,6 @@ use Rattle.hc_tops.specs.declared.line.Line.TheVariants.{Tick, Quiet, In, Restar
 use Rattle.hc_tops.specs.declared.setup.Setup.{Setup}
 use Rattle.hc_tops.specs.declared.member.Member.{Member}
 use Rattle.hc_tops.specs.Member.{begin, own_address}
-use Rattle.hc_tops.specs.declared.heard.Heard.{Heard}
-use Rattle.hc_tops.specs.declared.heard.Heard.TheVariants.{Nothing, Whole, Time}
-use Rattle.hc_tops.specs.Heard.{hear}
 use Rattle.hc_tops.specs.Turn.{finished, Reacted, turned}
 use Rattle.hc_tops.specs.Printed.{turn_text}
 use Rattle.hc_tops.specs.Line.{IsLine}
@@ -76,58 +73,36 @@ last_text s m = closing_text s (m.commit - m.applied) m
 unfoldable pub script_text : Setup → List Line → List ℕ
 script_text s lines = turns_text s begin lines ++ last_text s (after s begin lines)
 
--- whether a body begins as a command that isn't there yet: 0x44, 0x43, 0x53 or 0x4E
-abbrev pub is_later_command : List ℕ → Bool
-is_later_command [] = false
-is_later_command (tag ∷ rest) = tag == 0x44 || tag == 0x43 || tag == 0x53 || tag == 0x4E
+-- a line that can be run: a restart can't be yet
+abbrev pub IsBuilt : Line → Type 0
+IsBuilt Tick = Unit {0}
+IsBuilt Quiet = Unit {0}
+IsBuilt (In from bytes) = Unit {0}
+IsBuilt Restart = ⊥
 
--- whether a request is whole now whose command isn't there yet
-abbrev pub is_later : Heard → Bool
-is_later (Whole r) = is_later_command r.body
-is_later Nothing = false
-is_later Time = false
-
--- whether a member can take an event
-unfoldable pub is_taken : Member → Event → Bool
-is_taken m event = not (is_later (hear m.unfinished event).said)
-
--- whether a member can take the event of a line, where it has one
-abbrev pub is_run : Member → Option Event → Bool
-is_run m (Some event) = is_taken m event
-is_run m None = false
-
--- whether a member can run a line
-abbrev pub is_built : Setup → Member → Line → Bool
-is_built s m line = is_run m (event_of s line)
-
--- lines that a member can run one after another
-abbrev pub AreBuilt : Setup → Member → List Line → Type 0
-AreBuilt s m [] = Unit {0}
-AreBuilt s m (line ∷ lines) = (is_built s m line ≡ true) × AreBuilt s (line_turn s m line).member lines
-
--- the texts are lines that a member can run, and say these
-pub record AreLines (s : Setup) (m : Member) (texts : List (List ℕ)) (lines : List Line) : Type 0 where
+-- the texts are lines that can be run, and say these
+pub record AreLines (texts : List (List ℕ)) (lines : List Line) : Type 0 where
   pub each : All IsText texts
   pub said : Say texts lines
-  pub built : AreBuilt s m lines
+  pub built : All IsBuilt lines
 
 -- the text is no line of a script
 abbrev pub IsOutside : List ℕ → Type 0
 IsOutside text = (line : Line) → IsText text → IsLine text line → ⊥
 
--- the text is a line that a member can't run yet
-pub record IsUnbuilt (s : Setup) (m : Member) (text : List ℕ) : Type 0 where
+-- the text is a line that can't be run yet
+pub record IsUnbuilt (text : List ℕ) : Type 0 where
   pub line : Line
   pub short : IsText text
   pub said : IsLine text line
-  pub unbuilt : is_built s m line ≡ false
+  pub unbuilt : IsBuilt line → ⊥
 
 -- why a text isn't run: it is no line, or one that can't be run yet
 pub data Refusal : Type 0 where
   Outside : Refusal
   Unbuilt : Refusal
 
--- the text isn't run by a member, for this reason
-abbrev pub IsRefused : Setup → Refusal → Member → List ℕ → Type 0
-IsRefused s Outside m text = IsOutside text
-IsRefused s Unbuilt m text = IsUnbuilt s m text
+-- the text isn't run, for this reason
+abbrev pub IsRefused : Refusal → List ℕ → Type 0
+IsRefused Outside text = IsOutside text
+IsRefused Unbuilt text = IsUnbuilt text

@@ -11,7 +11,9 @@ use Rattle.hc_tops.specs.declared.setup.Setup.{Setup}
 use Rattle.hc_tops.specs.declared.member.Member.{Member}
 use Rattle.hc_tops.specs.declared.member.Role.{Role}
 use Rattle.hc_tops.specs.declared.member.Role.TheVariants.{Candidate, Leader}
-use Rattle.hc_tops.specs.Service.{Served, serve, payload_of}
+use Rattle.hc_service.specs.Service.{Served, serve}
+use Rattle.hc_service.specs.State.{State, after_write, after_admission}
+use Rattle.hc_service.specs.Replies.{payload_of}
 use Rattle.hc_tops.specs.Durable.{blank_of, has_room, stands_in, same_vote}
 use Rattle.hc_tops.specs.Pool.{waits_in}
 use Rattle.hc_tops.specs.Queues.{new_queues, choose, assign, report}
@@ -49,24 +51,37 @@ reply_kept s kept stored payload = if stored.entry.replier == s.me then kept_wit
 abbrev pub next_payload : Member → Served → List ℕ
 next_payload m served = payload_of (m.applied + 1) served.status served.value
 
--- a request of the log is served at the next index
-abbrev pub served_next : Setup → Member → Stored → Served → Sent
-served_next s m stored served =
+-- a request of the log was executed at the next index: the service is this then, and its replier answers
+abbrev pub served_next : Setup → Member → Stored → State → Served → Sent
+served_next s m stored service served =
     record {
       member =
           record m {
             applied = m.applied + 1;
-            store = served.contents;
+            service = service;
             kept = reply_kept s m.kept stored (next_payload m served);
           };
       sends = reply_sent s stored (next_payload m served);
     }
 
--- the next entry of the log is applied; a blank one changes nothing else
+-- nothing is executed at the next index
+abbrev pub passed_over : Member → Sent
+passed_over m = record { member = record m { applied = m.applied + 1 }; sends = [] }
+
+-- a request to write, executed: each member changes its service so
+abbrev pub write_applied : Setup → Member → Stored → Served → Sent
+write_applied s m stored served = served_next s m stored (after_write m.service served.contents) served
+
+-- a request to read: its replier alone executes it (HovercRaft, on read-only requests)
+abbrev pub read_applied : Setup → Member → Stored → Served → Sent
+read_applied s m stored served =
+    if stored.entry.replier == s.me then served_next s m stored (after_admission m.service) served else passed_over m
+
+-- the next entry of the log is applied
 abbrev pub entry_applied : Setup → Member → Stored → Kind → Sent
-entry_applied s m stored Blank = record { member = record m { applied = m.applied + 1 }; sends = [] }
-entry_applied s m stored Write = served_next s m stored (serve m.store Write stored.body)
-entry_applied s m stored Read = served_next s m stored (serve m.store Read stored.body)
+entry_applied s m stored Blank = passed_over m
+entry_applied s m stored Write = write_applied s m stored (serve m.service.contents Write stored.body)
+entry_applied s m stored Read = read_applied s m stored (serve m.service.contents Read stored.body)
 
 -- one entry of the log is applied
 unfoldable pub applied_one : Setup → Member → Stored → Sent

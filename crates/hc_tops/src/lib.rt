@@ -1,10 +1,9 @@
 //! The commands: each runs a party of the protocol between the objects of the outside.
 #![tactic(auto)]
 
-mod asked;
-mod command;
 mod heard;
 mod hearing;
+pub mod laws;
 mod line;
 mod log;
 mod log_steps;
@@ -16,13 +15,11 @@ mod queues;
 mod record;
 mod replaying;
 mod replies;
-mod reply;
 mod request;
 mod running;
 mod setup;
 mod spelling;
 mod status;
-mod store;
 mod top;
 mod turn;
 mod turns;

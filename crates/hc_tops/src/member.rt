@@ -1,6 +1,7 @@
-ghost use Rattle.hc_tops.specs.Durable.{blank_of, same_vote};
+ghost use Rattle.hc_service.specs.Replies.{payload_of};
+ghost use Rattle.hc_tops.specs.Durable.{blank_of, requests_of, same_vote};
 ghost use Rattle.hc_tops.specs.Turn.{entry_of};
-ghost use Rattle.std.specs.Prelude.{◌≡◌, ◌^◌, ℕ, ◌+◌, ◌-◌, ◌<◌, ◌≤◌, ◌++◌, true, false, All, length, slice_get, Some, IfOk, OnOk, MatchOption};
+ghost use Rattle.std.specs.Prelude.{◌≡◌, ◌^◌, ℕ, ◌+◌, ◌-◌, ◌<◌, ◌≤◌, ◌++◌, true, false, All, length, take, slice_get, Some, IfOk, OnOk, MatchOption};
 
 use crate::heard::Heard;
 use crate::hearing::hear;
@@ -11,8 +12,8 @@ use crate::record::{Record, Stored};
 use crate::replies::{payload_of, policy_of, reply_parts};
 use crate::request::Request;
 use crate::setup::Setup;
-use crate::store::Store;
 use crate::turn::Turn;
+use hc_service::{Kv, Reply, Service};
 use r2_base::{Addr, Bytes, Datagram, Datagrams, Entry, Event, Kind, Listed, NoMemory, Rid};
 use r2_frag::{Assembly, Kept};
 use std::alloc::Global;
@@ -62,7 +63,7 @@ pub struct Member {
     /// The index of a leader's first entry of its own term.
     pub term_start: u64,
     pub queues: Queues,
-    pub store: Store,
+    pub service: Kv,
     /// The replies to the last requests that this member answered.
     pub kept: Kept,
     /// How many ticks there were without word from a leader.
@@ -71,6 +72,7 @@ pub struct Member {
 
 impl Member {
     ghost use Rattle.hc_tops.specs.Member.{begin, own_address, AreShort, IsSound};
+    ghost use Rattle.hc_tops.specs.Operations.{IsReplayed};
     ghost use Rattle.hc_tops.specs.Replay.{IsAlone};
     ghost use Rattle.hc_tops.specs.Turn.{batched, due, applied_one, applied_all, batch_of, reported, finished, pooled, resent, request_row, waited, is_impatient, stood, won, ticked, row, order_next, ordered, ordering, counting, settled, stored_of, hearing, reacted_to};
     ghost use Rattle.hc_tops.specs.Heard.{hear, policy_of, IsShortHeard};
@@ -94,7 +96,7 @@ impl Member {
             pool: Pool::new(alloc),
             term_start: 0,
             queues: Queues::none(alloc),
-            store: Store::new(alloc),
+            service: Kv::new(alloc),
             kept: Kept::new(alloc)?,
             silent: 0,
         })
@@ -117,20 +119,22 @@ impl Member {
         }
     }
 
-    /// Keeps the reply to an entry, and puts its datagrams behind `sends`.
+    /// Keeps the reply to the entry at an index, and puts its datagrams behind `sends`.
     fn answer(
         &mut self,
         alloc: Global,
         setup: &Setup,
+        index: u64,
         entry: &Entry,
-        payload: Bytes,
+        reply: &Reply,
         sends: &mut Vec<Datagram>,
     ) -> Result<(), NoMemory>
         requires alone { IsAlone setup.now }
-        requires limit { length payload ≤ 65536 }
-        ensures state { OnOk result (self.new ≡ record self.old { kept = kept_with self.old.kept (record { rid = entry.now.rid; policy = policy_of entry.now.kind; payload = payload }) }) }
-        ensures replies { OnOk result (sends.new.items ≡ sends.old.items ++ reply_parts (own_address setup.now) (policy_of entry.now.kind) entry.now.rid payload) }
+        requires limit { length reply.now.value ≤ 65527 }
+        ensures state { OnOk result (self.new ≡ record self.old { kept = kept_with self.old.kept (record { rid = entry.now.rid; policy = policy_of entry.now.kind; payload = payload_of index reply.now.status reply.now.value }) }) }
+        ensures replies { OnOk result (sends.new.items ≡ sends.old.items ++ reply_parts (own_address setup.now) (policy_of entry.now.kind) entry.now.rid (payload_of index reply.now.status reply.now.value)) }
     {
+        let payload = payload_of(alloc, index, reply)?;
         let policy = policy_of(entry.kind);
         let from = setup.own_address();
         let datagrams = reply_parts(alloc, from, policy, entry.rid, payload.as_slice())?;
@@ -139,7 +143,7 @@ impl Member {
         Ok(())
     }
 
-    /// Applies the next entry of the log; its reply goes behind `sends`.
+    /// Applies the next entry of the log; the reply, where this member is to give it, goes behind `sends`.
     #[tactic(auto, unfolding(crate::specs::Turn::applied_one))]
     fn apply_next(
         &mut self,
@@ -151,7 +155,9 @@ impl Member {
         requires there { self.old.applied < length self.old.log }
         requires fits { length self.old.log ≤ 2 ^ 62 }
         requires bodies { All (λ stored. length stored.body ≤ 61440) self.old.log }
-        requires values { AreShort self.old.store }
+        requires values { AreShort self.old.service.contents }
+        requires writes { self.old.service.writes < 2 ^ 60 }
+        requires reads { self.old.service.reads < 2 ^ 60 }
         ensures state { OnOk result ((stored : _) → slice_get self.old.log self.old.applied ≡ Some stored
             → self.new ≡ (applied_one setup.now self.old stored).member) }
         ensures replies { OnOk result ((stored : _) → slice_get self.old.log self.old.applied ≡ Some stored
@@ -160,14 +166,22 @@ impl Member {
         let index = self.applied + 1;
         let stored = self.log.entry(index);
         let entry = stored.entry;
-        if entry.kind == Kind::Blank {
-            self.applied = index;
-            return Ok(());
-        }
-        let reply = self.store.serve(alloc, entry.kind, stored.body.as_slice())?;
-        let payload = payload_of(alloc, index, &reply)?;
-        if entry.replier == setup.me {
-            self.answer(alloc, setup, &entry, payload, sends)?;
+        let answers = entry.replier == setup.me;
+        match entry.kind {
+            Kind::Blank => {}
+            Kind::Write => {
+                let reply = self.service.apply(alloc, stored.body.as_slice())?;
+                if answers {
+                    self.answer(alloc, setup, index, &entry, &reply, sends)?;
+                }
+            }
+            Kind::Read => {
+                if answers {
+                    let ticket = self.service.admit();
+                    let reply = self.service.read(alloc, ticket, stored.body.as_slice())?;
+                    self.answer(alloc, setup, index, &entry, &reply, sends)?;
+                }
+            }
         }
         self.applied = index;
         Ok(())
@@ -179,8 +193,10 @@ impl Member {
         requires there { self.old.applied + self.old.pending ≤ length self.old.log }
         requires fits { length self.old.log ≤ 2 ^ 62 }
         requires bodies { All (λ stored. length stored.body ≤ 61440) self.old.log }
-        requires values { AreShort self.old.store }
+        requires values { AreShort self.old.service.contents }
         requires kept { All IsAnswer self.old.kept }
+        requires requests { requests_of self.old.log ≤ 1048576 }
+        requires service { IsReplayed setup.now.me (take self.old.applied self.old.log) self.old.service }
         ensures replies { IfOk result (λ sends. sends.items ≡ (applied_all setup.now self.old (batch_of self.old)).sends) }
         ensures applied { OnOk result (self.new ≡ (applied_all setup.now self.old (batch_of self.old)).member) }
     {

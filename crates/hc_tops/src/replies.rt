@@ -1,15 +1,15 @@
 ghost use Rattle.std.specs.Prelude.{◌≡◌, ◌≤◌, length, IfOk};
-ghost use Rattle.hc_tops.specs.Service.{payload_of};
+ghost use Rattle.hc_service.specs.Replies.{payload_of};
 ghost use Rattle.hc_tops.specs.Heard.{policy_of};
 ghost use Rattle.hc_tops.specs.Replies.{reply_parts};
 
-use crate::reply::Reply;
+use hc_service::Reply;
 use r2_base::{Addr, Bytes, Datagrams, Kind, Listed, NoMemory, Rid, push_u64};
 use r2_frag::{Class, Key, PartSpec, parts};
 use std::alloc::Global;
 
 /// The payload of a reply: the index of the request's entry, the status and the value.
-#[tactic(auto, unfolding(crate::specs::Service::payload_of))]
+#[tactic(auto, unfolding(hc_service::specs::Replies::payload_of))]
 pub(crate) fn payload_of(alloc: Global, index: u64, reply: &Reply) -> Result<Bytes, NoMemory>
     ensures { IfOk result (λ p. p ≡ payload_of index reply.now.status reply.now.value) }
 {

@@ -8,7 +8,7 @@ use crate::line::{Line, LineFault, replay_line};
 use crate::member::Member;
 use crate::setup::Setup;
 use crate::status::Status;
-use crate::turns::{TurnFault, make_turn, print_whole};
+use crate::turns::{make_turn, print_whole};
 use r2_base::{Datagram, Event};
 use r2_link::Sink;
 use std::alloc::Global;
@@ -61,10 +61,8 @@ pub(crate) fn run_text<K: Sink>(
     let Some(event) = event_of(setup, line) else {
         return Err(Status::NotBuilt { line: number });
     };
-    let turn = match make_turn(alloc, setup, member, &event) {
-        Ok(turn) => turn,
-        Err(TurnFault::NotBuilt) => return Err(Status::NotBuilt { line: number }),
-        Err(TurnFault::Memory) => return Err(Status::Memory),
+    let Ok(turn) = make_turn(alloc, setup, member, &event) else {
+        return Err(Status::Memory);
     };
     if let Err(status) = print_whole(alloc, &turn, sink) {
         return Err(status);

@@ -1,4 +1,4 @@
-ghost use Rattle.std.specs.Prelude.{◌≡◌, ◌≤◌, ◌++◌, true, false, None, Err, IfOk, IfErr, IfSome, OnOk};
+ghost use Rattle.std.specs.Prelude.{◌≡◌, ◌≤◌, ◌++◌, None, IfOk, IfErr, IfSome, OnOk};
 ghost use Rattle.std.specs.Io.KnownBytes.{Appends};
 ghost use Rattle.r2_link.specs.Streams.{AppendsFront};
 ghost use Rattle.hc_tops.specs.Member.{IsSound};
@@ -6,16 +6,15 @@ ghost use Rattle.hc_tops.specs.Replay.{IsAlone};
 ghost use Rattle.hc_tops.specs.Turn.{finished, turned};
 ghost use Rattle.hc_tops.specs.Printed.{turn_text};
 ghost use Rattle.hc_tops.specs.Durable.{FitsFields};
-ghost use Rattle.hc_tops.specs.Script.{is_later, is_taken, last_text};
+ghost use Rattle.hc_tops.specs.Script.{last_text};
 ghost use Rattle.hc_tops.specs.Stops.{StopsBySink};
 
-use crate::heard::Heard;
 use crate::member::Member;
 use crate::print::print_turn;
 use crate::setup::Setup;
 use crate::status::Status;
 use crate::turn::Turn;
-use r2_base::{Datagrams, Event};
+use r2_base::{Datagrams, Event, NoMemory};
 use r2_link::Sink;
 use std::alloc::Global;
 
@@ -26,34 +25,13 @@ pub(crate) struct WholeTurn {
     pub(crate) reaction: Turn,
 }
 
-/// Why no turn was made.
-#[derive(Clone, Copy, Debug, PartialEq, Eq)]
-pub(crate) enum TurnFault {
-    /// The command of a request isn't built yet.
-    NotBuilt,
-    Memory,
-}
-
-/// Whether a request is whole now whose command isn't built yet.
-fn is_later(said: &Heard) -> bool
-    ensures { result ≡ is_later said.now }
-{
-    match said {
-        Heard::Whole(request) => match request.body.as_slice().first() {
-            None => false,
-            Some(tag) => *tag == 0x44 || *tag == 0x43 || *tag == 0x53 || *tag == 0x4e,
-        },
-        Heard::Nothing | Heard::Time => false,
-    }
-}
-
 /// Makes one turn of a member.
 pub(crate) fn make_turn(
     alloc: Global,
     setup: &Setup,
     member: &mut Member,
     event: &Event,
-) -> Result<WholeTurn, TurnFault>
+) -> Result<WholeTurn, NoMemory>
     requires alone { IsAlone setup.now }
     requires sound { IsSound setup.now member.old }
 
@@ -61,22 +39,10 @@ pub(crate) fn make_turn(
     ensures stored { IfOk result (λ turn. turn.reaction.stored ≡ (turned setup.now member.old event.now).stored) }
     ensures sends { IfOk result (λ turn. turn.replies ++ turn.reaction.sends ≡ (turned setup.now member.old event.now).sends) }
     ensures fits { IfOk result (λ turn. IfSome turn.reaction.stored FitsFields) }
-
-    ensures built { OnOk result (is_taken member.old event.now ≡ true) }
-    ensures unbuilt { result ≡ Err TurnFault.NotBuilt → is_taken member.old event.now ≡ false }
 {
-    let Ok(replies) = member.finish(alloc, setup) else {
-        return Err(TurnFault::Memory);
-    };
-    let Ok(said) = member.hear(event) else {
-        return Err(TurnFault::Memory);
-    };
-    if is_later(&said) {
-        return Err(TurnFault::NotBuilt);
-    }
-    let Ok(reaction) = member.react(alloc, setup, said) else {
-        return Err(TurnFault::Memory);
-    };
+    let replies = member.finish(alloc, setup)?;
+    let said = member.hear(event)?;
+    let reaction = member.react(alloc, setup, said)?;
     Ok(WholeTurn { replies, reaction })
 }
 

@@ -1,6 +1,12 @@
 -- What contracts see of the objects in memory.
-use Rattle.std.specs.Prelude.{ℕ, ◌-◌, ◌<◌, ◌⊎◌, List}
+use Rattle.std.specs.Prelude.{ℕ, ◌-◌, ◌<◌, ◌⊎◌, List, [], ◌∷◌}
 use Rattle.r2_base.specs.declared.room.Room.{Room}
+use Rattle.r2_base.specs.declared.datagram.Datagram.{Datagram}
+use Rattle.r2_link.specs.declared.lane.Item.{Item}
+use Rattle.r2_link.specs.declared.lane.Lane.{Lane}
+use Rattle.r2_link.specs.declared.link.LinkFault.{LinkFault}
+use Rattle.r2_link.specs.declared.link.LinkFault.TheVariants.{Failed, Memory}
+use Rattle.r2_link.specs.Faults.{counted}
 
 -- a source: the bytes that are left, the calls made so far, the numbers of the calls that fail, and how often it failed
 pub record SourceState : Type 0 where
@@ -16,6 +22,41 @@ pub record SinkState : Type 0 where
   pub calls : ℕ
   pub fails : List ℕ
   pub faults : ℕ
+
+-- a clock: the moments that are left, the calls made so far, the numbers of the calls that fail, and how often it failed
+pub record ClockState : Type 0 where
+  pub left : List ℕ
+  pub calls : ℕ
+  pub fails : List ℕ
+  pub faults : ℕ
+
+-- a link: the items that are left, the datagrams that were sent, the lanes that are left for twins, the room that is left, the calls made so far, the numbers of the calls that fail, and how often it failed
+pub record LinkState : Type 0 where
+  pub left : List Item
+  pub sent : List Datagram
+  pub lanes : List Lane
+  pub room : Room
+  pub calls : ℕ
+  pub fails : List ℕ
+  pub faults : ℕ
+
+-- a link at its beginning, with a lane of its own and these for its twins
+abbrev pub begun : Lane → List Lane → LinkState
+begun own twins = record { left = own.items; sent = []; lanes = twins; room = own.room; calls = 0; fails = own.fails; faults = 0 }
+
+-- the lane of the next twin: an empty one without a room where none is left
+abbrev pub next_lane : List Lane → Lane
+next_lane [] = record { items = []; room = record { bytes = 0; calls = 0 }; fails = [] }
+next_lane (lane ∷ rest) = lane
+
+-- the items of a lane
+abbrev pub items_of : Lane → List Item
+items_of lane = lane.items
+
+-- how often a link has failed behind a call that had no answer
+abbrev pub faults_behind : LinkFault → ℕ → ℕ
+faults_behind Failed n = counted n
+faults_behind Memory n = n
 
 -- no call is left, or fewer bytes than these
 abbrev pub IsTooSmall : Room → ℕ → Type 0

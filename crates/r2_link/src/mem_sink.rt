@@ -5,7 +5,7 @@ ghost use Rattle.r2_link.specs.Faults.{Rose, counted};
 ghost use Rattle.r2_link.specs.Memory.{IsTooSmall, room_behind};
 
 use crate::Sink;
-use crate::calls::is_named;
+use crate::calls::is_refused;
 use r2_base::{Failed, NoMemory, Numbers, Room};
 use std::alloc::Global;
 use std::marker::Model;
@@ -88,19 +88,6 @@ impl Sink for MemSink {
         append(&mut self.items, &mut self.room, piece);
         Ok(piece.len())
     }
-}
-
-/// Whether a call that takes `size` bytes is to fail, or finds too little room.
-pub(crate) fn is_refused(fails: &[u64], calls: u64, room: Room, size: usize) -> bool
-    ensures { IsTrue result ↔ (Contains fails.now (calls + 1) ⊎ IsTooSmall room size) }
-{
-    if is_named(fails, calls) {
-        return true;
-    }
-    if room.calls == 0 {
-        return true;
-    }
-    room.bytes < size as u64
 }
 
 /// Appends a piece within the capacity that was reserved for the room.

@@ -1,5 +1,5 @@
 -- A turn by its steps.
-use Rattle.std.proofs.Common.{◌++◌, not, List, sym, ap, subst, ◌∙◌}
+use Rattle.std.proofs.Common.{◌++◌, List, sym, ap, subst, ◌∙◌}
 use Rattle.std.specs.Prelude.{IfSome}
 use Rattle.r2_base.specs.declared.datagram.Datagram.{Datagram}
 use Rattle.hc_tops.specs.Member.{IsSound}
@@ -9,54 +9,42 @@ use Rattle.hc_tops.specs.Turn.{Reacted, finished}
 use Rattle.hc_tops.proofs.ShortHearing.{hear_short}
 use Rattle.hc_tops.proofs.Sound.{sound-finished, sound-hearing}
 use Rattle.hc_tops.proofs.Growth.{reacted_to-fits}
-use Rattle.hc_tops.proofs.Turned.{is_taken-said, turned-steps}
+use Rattle.hc_tops.proofs.Turned.{turned-steps}
 use Rattle.hc_tops.proofs.turns.make_turn.Goals as goal
-
-pub returns-then-is_later-clause-unbuilt : goal.returns-then-is_later-clause-unbuilt
-returns-then-is_later-clause-unbuilt c = λ unbuilt.
-    let taken = is_taken-said c.args.setup.now c.args.member.now c.finish.new.self c.hear.new.self c.args.event.now c.in-Ok-hear.said c.in-Ok.ensures.state c.in-Ok-hear.ensures.said in
-    let later = sym c.is_later.ensures ∙ c.if-is_later.true in
-    taken ∙ ap not later
 
 pub react-requires-clause-sound : goal.react-requires-clause-sound
 react-requires-clause-sound c =
     let s = c.args.setup.now in
-    let between = subst (IsSound s) (sym c.in-Ok.ensures.state) (sound-finished s c.args.member.now c.requires.sound) in
-    subst (IsSound s) (sym c.in-Ok-hear.ensures.state) (sound-hearing s c.finish.new.self c.args.event.now between)
+    let between = subst (IsSound s) (sym c.in_ok-replies.ensures.state) (sound-finished s c.args.member.now c.requires.sound) in
+    subst (IsSound s) (sym c.in_ok-said.ensures.state) (sound-hearing s c.finish.new.self c.args.event.now between)
 
 pub react-requires-clause-short : goal.react-requires-clause-short
 react-requires-clause-short c =
     let s = c.args.setup.now in
-    let between = subst (IsSound s) (sym c.in-Ok.ensures.state) (sound-finished s c.args.member.now c.requires.sound) in
-    subst IsShortHeard (sym c.in-Ok-hear.ensures.said) (hear_short c.finish.new.self.unfinished c.args.event.now between.unfinished).0
+    let between = subst (IsSound s) (sym c.in_ok-replies.ensures.state) (sound-finished s c.args.member.now c.requires.sound) in
+    subst IsShortHeard (sym c.in_ok-said.ensures.said) (hear_short c.finish.new.self.unfinished c.args.event.now between.unfinished).0
 
 pub returns-clause-state : goal.returns-clause-state
 returns-clause-state c =
-    let steps = turned-steps c.args.setup.now c.args.member.now c.finish.new.self c.hear.new.self c.args.event.now c.in-Ok-hear.said c.in-Ok.ensures.state c.in-Ok-hear.ensures.said c.in-Ok-hear.ensures.state in
-    c.in-Ok-react.ensures.state ∙ sym (ap (λ (r : Reacted). r.member) steps)
+    let steps = turned-steps c.args.setup.now c.args.member.now c.finish.new.self c.hear.new.self c.args.event.now c.in_ok-said.said c.in_ok-replies.ensures.state c.in_ok-said.ensures.said c.in_ok-said.ensures.state in
+    c.in_ok-reaction.ensures.state ∙ sym (ap (λ (r : Reacted). r.member) steps)
 
 pub returns-clause-stored : goal.returns-clause-stored
 returns-clause-stored c =
-    let steps = turned-steps c.args.setup.now c.args.member.now c.finish.new.self c.hear.new.self c.args.event.now c.in-Ok-hear.said c.in-Ok.ensures.state c.in-Ok-hear.ensures.said c.in-Ok-hear.ensures.state in
-    c.in-Ok-react.ensures.stored ∙ sym (ap (λ (r : Reacted). r.stored) steps)
+    let steps = turned-steps c.args.setup.now c.args.member.now c.finish.new.self c.hear.new.self c.args.event.now c.in_ok-said.said c.in_ok-replies.ensures.state c.in_ok-said.ensures.said c.in_ok-said.ensures.state in
+    c.in_ok-reaction.ensures.stored ∙ sym (ap (λ (r : Reacted). r.stored) steps)
 
 pub returns-clause-sends : goal.returns-clause-sends
 returns-clause-sends c =
-    let steps = turned-steps c.args.setup.now c.args.member.now c.finish.new.self c.hear.new.self c.args.event.now c.in-Ok-hear.said c.in-Ok.ensures.state c.in-Ok-hear.ensures.said c.in-Ok-hear.ensures.state in
-    ap (λ (x : List Datagram). x ++ c.in-Ok-react.reaction.sends) c.in-Ok.ensures.replies
-    ∙ ap (λ (x : List Datagram). (finished c.args.setup.now c.args.member.now).sends ++ x) c.in-Ok-react.ensures.sends
+    let steps = turned-steps c.args.setup.now c.args.member.now c.finish.new.self c.hear.new.self c.args.event.now c.in_ok-said.said c.in_ok-replies.ensures.state c.in_ok-said.ensures.said c.in_ok-said.ensures.state in
+    ap (λ (x : List Datagram). x ++ c.in_ok-reaction.reaction.sends) c.in_ok-replies.ensures.replies
+    ∙ ap (λ (x : List Datagram). (finished c.args.setup.now c.args.member.now).sends ++ x) c.in_ok-reaction.ensures.sends
     ∙ sym (ap (λ (r : Reacted). r.sends) steps)
 
 pub returns-clause-fits : goal.returns-clause-fits
 returns-clause-fits c =
     let s = c.args.setup.now in
-    let between = subst (IsSound s) (sym c.in-Ok.ensures.state) (sound-finished s c.args.member.now c.requires.sound) in
-    let sound = subst (IsSound s) (sym c.in-Ok-hear.ensures.state) (sound-hearing s c.finish.new.self c.args.event.now between) in
-    let short = subst IsShortHeard (sym c.in-Ok-hear.ensures.said) (hear_short c.finish.new.self.unfinished c.args.event.now between.unfinished).0 in
-    subst (λ o. IfSome o FitsFields) (sym c.in-Ok-react.ensures.stored) (reacted_to-fits s c.hear.new.self c.in-Ok-hear.said short sound)
-
-pub returns-clause-built : goal.returns-clause-built
-returns-clause-built c =
-    let taken = is_taken-said c.args.setup.now c.args.member.now c.finish.new.self c.hear.new.self c.args.event.now c.in-Ok-hear.said c.in-Ok.ensures.state c.in-Ok-hear.ensures.said in
-    let later = sym c.is_later.ensures ∙ c.if-is_later.false in
-    taken ∙ ap not later
+    let between = subst (IsSound s) (sym c.in_ok-replies.ensures.state) (sound-finished s c.args.member.now c.requires.sound) in
+    let sound = subst (IsSound s) (sym c.in_ok-said.ensures.state) (sound-hearing s c.finish.new.self c.args.event.now between) in
+    let short = subst IsShortHeard (sym c.in_ok-said.ensures.said) (hear_short c.finish.new.self.unfinished c.args.event.now between.unfinished).0 in
+    subst (λ o. IfSome o FitsFields) (sym c.in_ok-reaction.ensures.stored) (reacted_to-fits s c.hear.new.self c.in_ok-said.said short sound)

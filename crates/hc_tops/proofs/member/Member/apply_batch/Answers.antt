@@ -1,15 +1,30 @@
 -- Each turn of the loop applies the next entry of the batch.
-use Rattle.std.proofs.Common.{◌≡◌, ◌+◌, ◌-◌, ◌<◌, ◌++◌, length, suc, sym, ap, ◌∙◌, arith, get_or, slice_get, Some, append-nil}
+use Rattle.std.proofs.Common.{◌≡◌, ◌+◌, ◌-◌, ◌<◌, ◌++◌, length, take, suc, sym, ap, ◌∙◌, arith, get_or, slice_get, Some, append-nil}
 use Rattle.std.proofs.lemmas.Option.{slice_get-get_or}
 use Rattle.hc_tops.specs.declared.member.Member.{Member}
 use Rattle.hc_tops.specs.declared.record.Stored.{Stored}
-use Rattle.hc_tops.specs.Durable.{blank_of}
+use Rattle.hc_tops.specs.Durable.{blank_of, requests_of}
 use Rattle.hc_tops.specs.Turn.{Sent, applied_all, batch_of}
 use Rattle.std.specs.Prelude.{All, ◌≤◌, List}
 use Rattle.std.proofs.Common.{subst}
+use Rattle.hc_tops.proofs.Counts.{writes_of-front, own_reads_of-front}
+use Rattle.hc_tops.specs.Operations.{IsReplayed}
+use Rattle.hc_tops.proofs.Replayed.{applied_one-replayed}
 use Rattle.hc_tops.proofs.Answering.{CanAnswer, applied_one-answers}
 use Rattle.hc_tops.proofs.Applying.{applied_one-leaves, batch_step, batch_end}
 use Rattle.hc_tops.proofs.member.Member.apply_batch.Goals as goal
+
+pub apply_next-requires-clause-writes : goal.apply_next-requires-clause-writes
+apply_next-requires-clause-writes c =
+    let m = c.entries.self in
+    let service = c.entries.invariant.service in
+    omega (arith, service.writes, writes_of-front m.applied m.log, c.entries.invariant.requests)
+
+pub apply_next-requires-clause-reads : goal.apply_next-requires-clause-reads
+apply_next-requires-clause-reads c =
+    let m = c.entries.self in
+    let service = c.entries.invariant.service in
+    omega (arith, service.reads, own_reads_of-front c.args.setup.now.me m.applied m.log, c.entries.invariant.requests)
 
 pub entries-preserved : goal.entries-preserved
 entries-preserved c =
@@ -30,6 +45,8 @@ entries-preserved c =
       fits = omega (arith, size);
       bodies = subst (λ (l : List Stored). All (λ (x : Stored). length x.body ≤ 61440) l) (sym log) c.entries.invariant.bodies;
       answers = subst CanAnswer (sym at) (applied_one-answers c.args.setup.now m stored short c.entries.invariant.answers);
+      requests = subst (λ (l : List Stored). requests_of l ≤ 1048576) (sym log) c.entries.invariant.requests;
+      service = subst (λ (n : Member). IsReplayed c.args.setup.now.me (take n.applied n.log) n.service) (sym at) (applied_one-replayed c.args.setup.now m stored there c.entries.invariant.service);
       member = step.0;
       replies = step.1;
     }

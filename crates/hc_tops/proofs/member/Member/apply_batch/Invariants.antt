@@ -2,6 +2,8 @@
 use Rattle.std.proofs.Common.{◌≡◌, ◌^◌, ◌+◌, ◌-◌, ◌≤◌, ◌++◌, length, take, drop}
 use Rattle.std.specs.Prelude.{All}
 use Rattle.hc_tops.specs.declared.record.Stored.{Stored}
+use Rattle.hc_tops.specs.Durable.{requests_of}
+use Rattle.hc_tops.specs.Operations.{IsReplayed}
 use Rattle.hc_tops.specs.Turn.{applied_all, batch_of}
 use Rattle.hc_tops.proofs.Answering.{CanAnswer}
 use Rattle.hc_tops.proofs.member.Member.apply_batch.Given as goal
@@ -12,6 +14,8 @@ invariant-entries l = record {
   fits : length l.self.log ≤ 2 ^ 62;
   bodies : All (λ (stored : Stored). length stored.body ≤ 61440) l.self.log;
   answers : CanAnswer l.self;
+  requests : requests_of l.self.log ≤ 1048576;
+  service : IsReplayed l.setup.me (take l.self.applied l.self.log) l.self.service;
   member : (applied_all l.setup l.self (take (l.done-end - l.done) (drop l.self.applied l.self.log))).member
       ≡ (applied_all l.setup l.initial.self (batch_of l.initial.self)).member;
   replies : l.sends.items ++ (applied_all l.setup l.self (take (l.done-end - l.done) (drop l.self.applied l.self.log))).sends

@@ -30,6 +30,16 @@ apply_batch-requires-clause-kept c =
     let sound = subst (IsSound c.args.setup.now) (sym c.set_due.ensures) (sound-due c.args.setup.now c.args.self.now c.requires.sound) in
     sound.replies
 
+pub apply_batch-requires-clause-requests : goal.apply_batch-requires-clause-requests
+apply_batch-requires-clause-requests c =
+    let sound = subst (IsSound c.args.setup.now) (sym c.set_due.ensures) (sound-due c.args.setup.now c.args.self.now c.requires.sound) in
+    sound.requests
+
+pub apply_batch-requires-clause-service : goal.apply_batch-requires-clause-service
+apply_batch-requires-clause-service c =
+    let sound = subst (IsSound c.args.setup.now) (sym c.set_due.ensures) (sound-due c.args.setup.now c.args.self.now c.requires.sound) in
+    sound.service
+
 pub report_own-requires-clause-sound : goal.report_own-requires-clause-sound
 report_own-requires-clause-sound c =
     let sound = subst (IsSound c.args.setup.now) (sym c.set_due.ensures) (sound-due c.args.setup.now c.args.self.now c.requires.sound) in

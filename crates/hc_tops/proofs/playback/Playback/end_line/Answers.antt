@@ -16,5 +16,5 @@ returns-clause-advanced g c =
     let old = g.K.Sink.written c.args.sink.now in
     let new = g.K.Sink.written c.run_text.new.sink in
     let ran = subst (λ (text : List ℕ). Ran p.setup p.member c.run_text.new.member (text ∷ []) old new) c.deref.ensures.value c.in_default.ensures.ran in
-    subst (λ (rest : List ℕ). Advanced p.setup p.member c.run_text.new.member p.partial.items rest p.lines (p.lines + 1) old new (10 ∷ [])) (sym c.clear.ensures.items)
+    subst (λ (rest : List ℕ). Advanced p.setup p.member c.run_text.new.member p.partial.items rest p.lines (p.lines + 1) old new (10 ∷ [])) (sym {A = List ℕ} c.clear.ensures.items)
     (Advanced-line p.setup p.member c.run_text.new.member p.partial.items p.lines old new ran)

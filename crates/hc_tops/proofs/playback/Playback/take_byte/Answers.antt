@@ -14,7 +14,7 @@ pub returns-in-Ok-clause-advanced : goal.returns-in-Ok-clause-advanced
 returns-in-Ok-clause-advanced g c =
     let p = c.args.self.now in
     let w = g.K.Sink.written c.args.sink.now in
-    subst (λ (rest : List ℕ). Advanced p.setup p.member p.member p.partial.items rest p.lines p.lines w w (c.args.byte ∷ [])) (sym c.in-Ok.ensures.items)
+    subst (λ (rest : List ℕ). Advanced p.setup p.member p.member p.partial.items rest p.lines p.lines w w (c.args.byte ∷ [])) (sym {A = List ℕ} c.in-Ok.ensures.items)
     (Advanced-byte p.setup p.member p.partial.items p.lines w c.args.byte c.requires.text c.if-byte-eq-LINE_END.false (omega (arith, p.partial.ok.0)))
 
 pub returns-in-Err-clause-stops : goal.returns-in-Err-clause-stops

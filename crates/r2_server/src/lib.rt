@@ -1,0 +1,12 @@
+//! A plain server: it answers requests over R2P2 by itself, alone or behind a router, and replicates nothing.
+#![tactic(auto)]
+
+pub mod laws;
+mod notices;
+mod party;
+mod server;
+#[cfg(test)]
+mod tests;
+mod timers;
+
+pub use server::Server;
