@@ -1,0 +1,5 @@
+pub mod ShortReplies
+pub mod Outcomes
+pub mod Timing
+pub mod Ids
+pub mod OtherParts
