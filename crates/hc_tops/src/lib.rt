@@ -1,34 +1,19 @@
 //! The commands: each runs a party of the protocol between the objects of the outside.
 #![tactic(auto)]
 
-mod heard;
-mod hearing;
-pub mod laws;
-mod line;
-mod log;
-mod log_steps;
-mod member;
-mod playback;
-mod pool;
-mod print;
-mod queues;
-mod record;
-mod replaying;
-mod replies;
-mod request;
-mod running;
-mod setup;
-mod spelling;
-mod status;
+mod bound;
+mod plain;
 mod top;
-mod turn;
-mod turns;
-mod words;
 
-pub use replaying::replay;
-pub use setup::Setup;
-pub use status::{Status, report};
-pub use top::run;
+pub use hc_calling::{Calling, call_client};
+pub use hc_loops::Pace;
+pub use hc_replay::{Setup, replay};
+pub use hc_status::{Status, report};
+pub use hc_text::Policy;
+pub use plain::serve_plain;
+pub use top::{run, run_plain};
 
+#[cfg(test)]
+mod plain_tests;
 #[cfg(test)]
 mod tests;

@@ -1,9 +1,9 @@
 ghost use Rattle.std.specs.Prelude.{◌≤◌, IfOk};
-ghost use Rattle.hc_tops.specs.Replay.{IsAlone};
+ghost use Rattle.hc_replay.specs.Replay.{IsAlone};
 
-use crate::{Setup, Status, replay, run};
-use r2_base::{Addr, Addrs, Bytes, Failed, NoMemory, Numbers, Room};
-use r2_link::{MemSink, MemSource, Sink, Source};
+use crate::{Setup, Status, replay, run, run_plain};
+use r2_base::{Addr, Addrs, Bytes, Datagram, Failed, NoMemory, Numbers, Room};
+use r2_link::{Item, Items, Lane, Lanes, MemClock, MemLink, MemSink, MemSource, Sink, Source};
 use std::alloc::Global;
 use std::test::Fail;
 
@@ -31,6 +31,19 @@ const WORDS: [&str; 7] = [
     "--election",
     "1",
 ];
+
+const SERVER: Addr = Addr {
+    ip: 0x0A00_0001,
+    port: 9000,
+};
+
+const CLIENT: Addr = Addr {
+    ip: 0x0A00_0009,
+    port: 7001,
+};
+
+/// The reply to a client's first request: the key is absent.
+const REPLY: &[u8] = b"\x52\x08\x10\xC0\x00\x00\x00\x01\x00\x00\x00\x00\x00\x00\x00\x01\x01";
 
 /// Gives a byte a call.
 #[derive(Drop)]
@@ -83,9 +96,34 @@ fn sink(alloc: Global, fails: &[u64]) -> Result<MemSink, NoMemory> {
     MemSink::new(alloc, room, numbers(alloc, fails)?)
 }
 
-fn words(alloc: Global) -> Result<Vec<String>, NoMemory> {
+/// A link on which these come to the client from the server.
+fn link(alloc: Global, heard: &[&[u8]], fails: &[u64]) -> Result<MemLink, NoMemory> {
+    let mut items = Vec::new(alloc);
+    for bytes in heard.iter() {
+        items.push(Item::Datagram(Datagram {
+            from: SERVER,
+            to: CLIENT,
+            bytes: Bytes::from_vec(bytes.to_vec(alloc)?),
+        }))?;
+    }
+    let lane = Lane {
+        items: Items::from_vec(items),
+        room: Room {
+            bytes: 2_000,
+            calls: 1_000,
+        },
+        fails: numbers(alloc, fails)?,
+    };
+    MemLink::new(alloc, lane, Lanes::from_vec(Vec::new(alloc)))
+}
+
+fn clock(alloc: Global) -> Result<MemClock, NoMemory> {
+    Ok(MemClock::new(numbers(alloc, &[0, 10])?, numbers(alloc, &[])?))
+}
+
+fn words(alloc: Global, line: &[&str]) -> Result<Vec<String>, NoMemory> {
     let mut words = Vec::new(alloc);
-    for word in WORDS.iter() {
+    for word in line.iter() {
         words.push(String::from_str(alloc, word)?)?;
     }
     Ok(words)
@@ -122,10 +160,12 @@ fn a_byte_a_call_changes_nothing(rt: HostRuntime) -> Result<(), Fail> {
     let mut errors = sink(alloc, &[])?;
     let status = run(
         alloc,
-        words(alloc)?.as_slice(),
+        words(alloc, &WORDS)?.as_slice(),
         &mut drip,
         &mut sip,
         &mut errors,
+        &mut link(alloc, &[], &[])?,
+        &mut clock(alloc)?,
     );
     assert!(rt; status == Status::Done);
     assert!(rt; sip.inner.written() == PRINTED);
@@ -155,7 +195,15 @@ fn failing_errors_change_no_status(rt: HostRuntime) -> Result<(), Fail> {
     let mut unread = source(alloc, SCRIPT, &[1])?;
     let mut printed = sink(alloc, &[1])?;
     let mut errors = sink(alloc, &[1])?;
-    let status = run(alloc, &[], &mut unread, &mut printed, &mut errors);
+    let status = run(
+        alloc,
+        &[],
+        &mut unread,
+        &mut printed,
+        &mut errors,
+        &mut link(alloc, &[], &[])?,
+        &mut clock(alloc)?,
+    );
     assert!(rt; status == Status::BadWords);
     assert!(rt; errors.written().is_empty());
     Ok(())
@@ -180,5 +228,68 @@ out 10.0.0.9:7001 520813C000030001000000000000000401\n";
     let status = replay(alloc, alone(alloc, 1)?, &mut given, &mut printed);
     assert!(rt; status == Status::Done);
     assert!(rt; printed.written() == want);
+    Ok(())
+}
+
+#[test]
+fn a_server_needs_a_link_that_binds(rt: HostRuntime) -> Result<(), Fail> {
+    let alloc = rt.alloc();
+    let server = words(alloc, &["server", "--listen", "10.0.0.1:9000"])?;
+    for (fails, status, line) in [
+        (0, Status::Done, b"".as_slice()),
+        (
+            1,
+            Status::LinkFault,
+            b"r2p2_suite: the link failed\n".as_slice(),
+        ),
+    ] {
+        let mut given = source(alloc, b"", &[])?;
+        let mut printed = sink(alloc, &[])?;
+        let mut errors = sink(alloc, &[])?;
+        let mut lane = link(alloc, &[], &[fails])?;
+        let mut moments = clock(alloc)?;
+        let ended = run(
+            alloc,
+            server.as_slice(),
+            &mut given,
+            &mut printed,
+            &mut errors,
+            &mut lane,
+            &mut moments,
+        );
+        assert!(rt; ended == status);
+        assert!(rt; errors.written() == line);
+    }
+    Ok(())
+}
+
+#[test]
+fn a_client_asks_for_a_key_that_is_absent(rt: HostRuntime) -> Result<(), Fail> {
+    let alloc = rt.alloc();
+    let client = words(
+        alloc,
+        &[
+            "client",
+            "--listen=10.0.0.9:7001",
+            "--to=10.0.0.1:9000",
+            "--policy=fixed",
+        ],
+    )?;
+    let mut given = source(alloc, b"get a\n", &[])?;
+    let mut printed = sink(alloc, &[])?;
+    let mut errors = sink(alloc, &[])?;
+    let mut lane = link(alloc, &[REPLY], &[])?;
+    let mut moments = clock(alloc)?;
+    let status = run_plain(
+        alloc,
+        client.as_slice(),
+        &mut given,
+        &mut printed,
+        &mut errors,
+        &mut lane,
+        &mut moments,
+    );
+    assert!(rt; status == Status::Done);
+    assert!(rt; printed.written() == b"reply 1 1 -\n".as_slice());
     Ok(())
 }

@@ -1,104 +1,313 @@
-ghost use Rattle.std.specs.Prelude.{◌≡◌, ◌≢◌, ◌≤◌, ◌↔◌, ℕ, List, Some, map, IfOk};
+ghost use Rattle.std.specs.Prelude.{◌≡◌, ◌≤◌, ◌^◌, [], length, map};
 ghost use Rattle.std.specs.String.{string_bytes};
-ghost use Rattle.r2_base.specs.declared.addr.Addr.{Addr as Address};
 ghost use Rattle.r2_link.specs.Faults.{Rose};
-ghost use Rattle.hc_tops.specs.Words.{AsksReplay};
-ghost use Rattle.hc_tops.specs.Run.{setup_of};
-ghost use Rattle.hc_tops.specs.Grammar.{IsScript};
-ghost use Rattle.hc_tops.specs.Replay.{IsComplete, IsReplay};
-ghost use Rattle.hc_tops.specs.Printed.{error_text};
-ghost use Rattle.hc_tops.specs.Stops.{Reports};
-ghost use Rattle.hc_tops.specs.declared.status.Status.TheVariants.{BadWords, SourceFault, SinkFault};
+ghost use Rattle.r2_link.specs.Told.{IsKept};
+ghost use Rattle.hc_text.specs.declared.meant.Meant.{Meant as Meaning};
+ghost use Rattle.hc_text.specs.Words.{Means};
+ghost use Rattle.hc_status.specs.Stops.{Reports};
+ghost use Rattle.hc_status.specs.Texts.{error_text};
+ghost use Rattle.hc_status.specs.declared.status.Status.TheVariants.{BadWords, SourceFault, SinkFault, LinkFault, ClockFault};
+ghost use Rattle.hc_loops.specs.Loop.{IsServed, Serves};
+ghost use Rattle.hc_loops.specs.Outside.{Passes};
+ghost use Rattle.hc_calling.specs.Outside.{outside};
+ghost use Rattle.hc_tops.specs.Commands.{EndsWell, IsPlain, IsRefusal, IsWithin, Runs, UsesLink, UsesScript};
 
-use crate::replaying::replay;
-use crate::setup::Setup;
-use crate::status::{Status, report};
-use crate::words::meaning;
-use r2_base::{Addr, Addrs, NoMemory};
-use r2_link::{Sink, Source};
+use crate::bound::{call_bound, serve_bound};
+use hc_calling::Calling;
+use hc_loops::Pace;
+use hc_replay::{Setup, replay};
+use hc_status::{Status, report};
+use hc_text::{Meant, TextFault, meaning};
+use r2_link::{Clock, Link, Sink, Source, Twin};
 use std::alloc::Global;
 
-/// The bound of a leader per replier where the words name none.
-const BOUND: u16 = 64;
-
-/// The replica that the words ask for.
-fn setup_of(alloc: Global, member: Addr) -> Result<Setup, NoMemory>
-    ensures { IfOk result (λ setup. setup ≡ setup_of member) }
-{
-    let mut members = Vec::new(alloc);
-    members.push(member)?;
-    Ok(Setup {
-        members: Addrs::from_vec(members),
-        me: 0,
-        aggregator: None,
-        bound: BOUND,
-        election: 1,
-    })
-}
-
-/// Runs the replica that the words ask for.
-fn replay_alone<S: Source, K: Sink>(
+/// Runs what the words mean, unless that is a server.
+fn run_plain_meant<S: Source, K: Sink, L: Link, C: Clock>(
     alloc: Global,
-    member: Addr,
+    meant: Meant,
     source: &mut S,
     sink: &mut K,
+    link: &mut L,
+    clock: &mut C,
 ) -> Status
-    ensures ran { IsReplay (setup_of member) (S.left source.old) (S.left source.new) (K.written sink.old) (K.written sink.new) result }
-    ensures known { result ≢ BadWords }
+    requires { IsWithin meant }
 
-    ensures complete { (script : List ℕ) → S.left source.old ≡ Some script → IsScript script
-        → (Rose (S.faults source.old) (S.faults source.new) → ⊥) → (Rose (K.faults sink.old) (K.faults sink.new) → ⊥) → IsComplete result }
+    ensures ran { IsPlain meant → Runs meant (S.left source.old) (S.left source.new)
+        (outside (L.left link.old) (L.sent link.old) (C.left clock.old) (K.written sink.old)) (outside (L.left link.new) (L.sent link.new) (C.left clock.new) (K.written sink.new)) result }
+    ensures complete { IsPlain meant → EndsWell meant (S.left source.old) (Rose (S.faults source.old) (S.faults source.new)) (Rose (K.faults sink.old) (K.faults sink.new)) (Rose (L.faults link.old) (L.faults link.new)) (Rose (C.faults clock.old) (C.faults clock.new)) result }
+    ensures refused { (IsPlain meant → ⊥) → result ≡ BadWords }
 
+    ensures source_kept { (IsPlain meant → UsesScript meant → ⊥) → source.new ≡ source.old }
+    ensures sink_kept { (IsPlain meant → UsesScript meant → ⊥) → sink.new ≡ sink.old }
+    ensures link_kept { (IsPlain meant → UsesLink meant → ⊥) → link.new ≡ link.old }
+    ensures clock_kept { (IsPlain meant → UsesLink meant → ⊥) → clock.new ≡ clock.old }
+    ensures lanes { IsKept (L.lanes link.old) (L.lanes link.new) }
     ensures source_fault { result ≡ SourceFault → Rose (S.faults source.old) (S.faults source.new) }
     ensures sink_fault { result ≡ SinkFault → Rose (K.faults sink.old) (K.faults sink.new) }
+    ensures link_fault { result ≡ LinkFault → Rose (L.faults link.old) (L.faults link.new) }
+    ensures clock_fault { result ≡ ClockFault → Rose (C.faults clock.old) (C.faults clock.new) }
     ensures source_steady { S.faults source.old ≤ S.faults source.new }
     ensures sink_steady { K.faults sink.old ≤ K.faults sink.new }
+    ensures link_steady { L.faults link.old ≤ L.faults link.new }
+    ensures clock_steady { C.faults clock.old ≤ C.faults clock.new }
 {
-    match setup_of(alloc, member) {
-        Ok(setup) => replay(alloc, setup, source, sink),
-        Err(_) => Status::Memory,
+    match meant {
+        Meant::Server { .. } => Status::BadWords,
+        Meant::Client {
+            listen,
+            to,
+            policy,
+            wait,
+            tries,
+            tick_ms,
+            turns,
+        } => {
+            let calling = Calling {
+                listen,
+                to,
+                policy,
+                wait,
+                tries,
+            };
+            call_bound(
+                alloc,
+                calling,
+                source,
+                sink,
+                link,
+                clock,
+                Pace { tick_ms, turns },
+            )
+        }
+        Meant::Replay {
+            members,
+            me,
+            aggregator,
+            bound,
+            election,
+        } => {
+            let setup = Setup {
+                members,
+                me,
+                aggregator,
+                bound,
+                election,
+            };
+            replay(alloc, setup, source, sink)
+        }
     }
 }
 
-/// All that the program does: what the words ask for, and the line on `errors` where it didn't go well.
+/// Runs what the words mean.
+fn run_meant<S: Source, K: Sink, L: Twin, C: Clock>(
+    alloc: Global,
+    meant: Meant,
+    source: &mut S,
+    sink: &mut K,
+    link: &mut L,
+    clock: &mut C,
+) -> Status
+    requires { IsWithin meant }
+
+    ensures ran { Runs meant (S.left source.old) (S.left source.new)
+        (outside (L.left link.old) (L.sent link.old) (C.left clock.old) (K.written sink.old)) (outside (L.left link.new) (L.sent link.new) (C.left clock.new) (K.written sink.new)) result }
+    ensures complete { EndsWell meant (S.left source.old) (Rose (S.faults source.old) (S.faults source.new)) (Rose (K.faults sink.old) (K.faults sink.new)) (Rose (L.faults link.old) (L.faults link.new)) (Rose (C.faults clock.old) (C.faults clock.new)) result }
+
+    ensures source_kept { (UsesScript meant → ⊥) → source.new ≡ source.old }
+    ensures sink_kept { (UsesScript meant → ⊥) → sink.new ≡ sink.old }
+    ensures link_kept { (UsesLink meant → ⊥) → link.new ≡ link.old }
+    ensures clock_kept { (UsesLink meant → ⊥) → clock.new ≡ clock.old }
+    ensures lanes { IsKept (L.lanes link.old) (L.lanes link.new) }
+    ensures source_fault { result ≡ SourceFault → Rose (S.faults source.old) (S.faults source.new) }
+    ensures sink_fault { result ≡ SinkFault → Rose (K.faults sink.old) (K.faults sink.new) }
+    ensures link_fault { result ≡ LinkFault → Rose (L.faults link.old) (L.faults link.new) }
+    ensures clock_fault { result ≡ ClockFault → Rose (C.faults clock.old) (C.faults clock.new) }
+    ensures source_steady { S.faults source.old ≤ S.faults source.new }
+    ensures sink_steady { K.faults sink.old ≤ K.faults sink.new }
+    ensures link_steady { L.faults link.old ≤ L.faults link.new }
+    ensures clock_steady { C.faults clock.old ≤ C.faults clock.new }
+{
+    match meant {
+        Meant::Server {
+            listen,
+            router,
+            tick_ms,
+            turns,
+        } => serve_bound(alloc, listen, router, link, clock, Pace { tick_ms, turns }),
+        plain => run_plain_meant(alloc, plain, source, sink, link, clock),
+    }
+}
+
+fn run_plain_words<S: Source, K: Sink, L: Link, C: Clock>(
+    alloc: Global,
+    words: &[String],
+    source: &mut S,
+    sink: &mut K,
+    link: &mut L,
+    clock: &mut C,
+) -> Status
+    ensures refused { result ≡ BadWords → (m : Meaning) → Means (map (λ w. string_bytes w) words.now) m → IsPlain m → ⊥ }
+    ensures only_refused { ((m : Meaning) → Means (map (λ w. string_bytes w) words.now) m → IsPlain m → ⊥) → IsRefusal result }
+
+    ensures ran { (m : Meaning) → Means (map (λ w. string_bytes w) words.now) m → IsPlain m → Runs m (S.left source.old) (S.left source.new)
+        (outside (L.left link.old) (L.sent link.old) (C.left clock.old) (K.written sink.old)) (outside (L.left link.new) (L.sent link.new) (C.left clock.new) (K.written sink.new)) result }
+
+    ensures complete { (m : Meaning) → Means (map (λ w. string_bytes w) words.now) m → IsPlain m → EndsWell m (S.left source.old)
+        (Rose (S.faults source.old) (S.faults source.new)) (Rose (K.faults sink.old) (K.faults sink.new)) (Rose (L.faults link.old) (L.faults link.new)) (Rose (C.faults clock.old) (C.faults clock.new)) result }
+
+    ensures source_kept { ((m : Meaning) → Means (map (λ w. string_bytes w) words.now) m → IsPlain m → UsesScript m → ⊥) → source.new ≡ source.old }
+    ensures sink_kept { ((m : Meaning) → Means (map (λ w. string_bytes w) words.now) m → IsPlain m → UsesScript m → ⊥) → sink.new ≡ sink.old }
+    ensures link_kept { ((m : Meaning) → Means (map (λ w. string_bytes w) words.now) m → IsPlain m → UsesLink m → ⊥) → link.new ≡ link.old }
+    ensures clock_kept { ((m : Meaning) → Means (map (λ w. string_bytes w) words.now) m → IsPlain m → UsesLink m → ⊥) → clock.new ≡ clock.old }
+    ensures lanes { IsKept (L.lanes link.old) (L.lanes link.new) }
+    ensures source_fault { result ≡ SourceFault → Rose (S.faults source.old) (S.faults source.new) }
+    ensures sink_fault { result ≡ SinkFault → Rose (K.faults sink.old) (K.faults sink.new) }
+    ensures link_fault { result ≡ LinkFault → Rose (L.faults link.old) (L.faults link.new) }
+    ensures clock_fault { result ≡ ClockFault → Rose (C.faults clock.old) (C.faults clock.new) }
+    ensures source_steady { S.faults source.old ≤ S.faults source.new }
+    ensures sink_steady { K.faults sink.old ≤ K.faults sink.new }
+    ensures link_steady { L.faults link.old ≤ L.faults link.new }
+    ensures clock_steady { C.faults clock.old ≤ C.faults clock.new }
+{
+    match meaning(alloc, words) {
+        Ok(meant) => run_plain_meant(alloc, meant, source, sink, link, clock),
+        Err(TextFault::Outside) => Status::BadWords,
+        Err(TextFault::Memory) => Status::Memory,
+    }
+}
+
+fn run_words<S: Source, K: Sink, L: Twin, C: Clock>(
+    alloc: Global,
+    words: &[String],
+    source: &mut S,
+    sink: &mut K,
+    link: &mut L,
+    clock: &mut C,
+) -> Status
+    ensures refused { result ≡ BadWords → (m : Meaning) → Means (map (λ w. string_bytes w) words.now) m → ⊥ }
+    ensures only_refused { ((m : Meaning) → Means (map (λ w. string_bytes w) words.now) m → ⊥) → IsRefusal result }
+
+    ensures ran { (m : Meaning) → Means (map (λ w. string_bytes w) words.now) m → Runs m (S.left source.old) (S.left source.new)
+        (outside (L.left link.old) (L.sent link.old) (C.left clock.old) (K.written sink.old)) (outside (L.left link.new) (L.sent link.new) (C.left clock.new) (K.written sink.new)) result }
+
+    ensures complete { (m : Meaning) → Means (map (λ w. string_bytes w) words.now) m → EndsWell m (S.left source.old)
+        (Rose (S.faults source.old) (S.faults source.new)) (Rose (K.faults sink.old) (K.faults sink.new)) (Rose (L.faults link.old) (L.faults link.new)) (Rose (C.faults clock.old) (C.faults clock.new)) result }
+
+    ensures source_kept { ((m : Meaning) → Means (map (λ w. string_bytes w) words.now) m → UsesScript m → ⊥) → source.new ≡ source.old }
+    ensures sink_kept { ((m : Meaning) → Means (map (λ w. string_bytes w) words.now) m → UsesScript m → ⊥) → sink.new ≡ sink.old }
+    ensures link_kept { ((m : Meaning) → Means (map (λ w. string_bytes w) words.now) m → UsesLink m → ⊥) → link.new ≡ link.old }
+    ensures clock_kept { ((m : Meaning) → Means (map (λ w. string_bytes w) words.now) m → UsesLink m → ⊥) → clock.new ≡ clock.old }
+    ensures lanes { IsKept (L.lanes link.old) (L.lanes link.new) }
+    ensures source_fault { result ≡ SourceFault → Rose (S.faults source.old) (S.faults source.new) }
+    ensures sink_fault { result ≡ SinkFault → Rose (K.faults sink.old) (K.faults sink.new) }
+    ensures link_fault { result ≡ LinkFault → Rose (L.faults link.old) (L.faults link.new) }
+    ensures clock_fault { result ≡ ClockFault → Rose (C.faults clock.old) (C.faults clock.new) }
+    ensures source_steady { S.faults source.old ≤ S.faults source.new }
+    ensures sink_steady { K.faults sink.old ≤ K.faults sink.new }
+    ensures link_steady { L.faults link.old ≤ L.faults link.new }
+    ensures clock_steady { C.faults clock.old ≤ C.faults clock.new }
+{
+    match meaning(alloc, words) {
+        Ok(meant) => run_meant(alloc, meant, source, sink, link, clock),
+        Err(TextFault::Outside) => Status::BadWords,
+        Err(TextFault::Memory) => Status::Memory,
+    }
+}
+
+/// The commands that no thread is needed for: a client's calls and a replay, and the line on `errors` where it didn't go well.
 ///
-/// A failing `errors` changes no status.
-pub fn run<S: Source, K: Sink, E: Sink>(
+/// A client's link is bound to its address first. A failing `errors` changes no status.
+pub fn run_plain<S: Source, K: Sink, E: Sink, L: Link, C: Clock>(
     alloc: Global,
     words: &[String],
     source: &mut S,
     sink: &mut K,
     errors: &mut E,
+    link: &mut L,
+    clock: &mut C,
 ) -> Status
-    // The words are refused exactly where they don't ask for a replay, and then nothing else is touched.
-    ensures refused { (result ≡ BadWords) ↔ ((member : Address) → AsksReplay (map (λ w. string_bytes w) words.now) member → ⊥) }
-    ensures source_untouched { result ≡ BadWords → source.new ≡ source.old }
-    ensures sink_untouched { result ≡ BadWords → sink.new ≡ sink.old }
+    // The words are refused where they mean nothing, or a server, and only there. Want of memory can come first.
+    ensures refused { result ≡ BadWords → (m : Meaning) → Means (map (λ w. string_bytes w) words.now) m → IsPlain m → ⊥ }
+    ensures only_refused { ((m : Meaning) → Means (map (λ w. string_bytes w) words.now) m → IsPlain m → ⊥) → IsRefusal result }
 
-    // Else the replay is that of the replica that they name.
-    ensures ran { (member : Address) → AsksReplay (map (λ w. string_bytes w) words.now) member
-        → IsReplay (setup_of member) (S.left source.old) (S.left source.new) (K.written sink.old) (K.written sink.new) result }
+    // Else the command ran that they mean.
+    ensures ran { (m : Meaning) → Means (map (λ w. string_bytes w) words.now) m → IsPlain m → Runs m (S.left source.old) (S.left source.new)
+        (outside (L.left link.old) (L.sent link.old) (C.left clock.old) (K.written sink.old)) (outside (L.left link.new) (L.sent link.new) (C.left clock.new) (K.written sink.new)) result }
 
-    // A script in its grammar, where neither the source nor the sink failed, is run to its end, or ends at a line that
-    // isn't built, at 2^56 bytes, or for want of memory.
-    ensures complete { (member : Address) → AsksReplay (map (λ w. string_bytes w) words.now) member
-        → (script : List ℕ) → S.left source.old ≡ Some script → IsScript script
-        → (Rose (S.faults source.old) (S.faults source.new) → ⊥) → (Rose (K.faults sink.old) (K.faults sink.new) → ⊥) → IsComplete result }
+    // How a command ends of a script in its grammar, where nothing failed.
+    ensures complete { (m : Meaning) → Means (map (λ w. string_bytes w) words.now) m → IsPlain m → EndsWell m (S.left source.old)
+        (Rose (S.faults source.old) (S.faults source.new)) (Rose (K.faults sink.old) (K.faults sink.new)) (Rose (L.faults link.old) (L.faults link.new)) (Rose (C.faults clock.old) (C.faults clock.new)) result }
+
+    // What the command doesn't use, or where there is none, is left as it was.
+    ensures source_kept { ((m : Meaning) → Means (map (λ w. string_bytes w) words.now) m → IsPlain m → UsesScript m → ⊥) → source.new ≡ source.old }
+    ensures sink_kept { ((m : Meaning) → Means (map (λ w. string_bytes w) words.now) m → IsPlain m → UsesScript m → ⊥) → sink.new ≡ sink.old }
+    ensures link_kept { ((m : Meaning) → Means (map (λ w. string_bytes w) words.now) m → IsPlain m → UsesLink m → ⊥) → link.new ≡ link.old }
+    ensures clock_kept { ((m : Meaning) → Means (map (λ w. string_bytes w) words.now) m → IsPlain m → UsesLink m → ⊥) → clock.new ≡ clock.old }
+    ensures lanes { IsKept (L.lanes link.old) (L.lanes link.new) }
 
     // The errors gain exactly the line of the status, or a front of it where they failed.
     ensures told { Reports (E.written errors.old) (E.written errors.new) (E.faults errors.old) (E.faults errors.new) (error_text result) }
+    ensures errors_steady { E.faults errors.old ≤ E.faults errors.new }
 
     ensures source_fault { result ≡ SourceFault → Rose (S.faults source.old) (S.faults source.new) }
     ensures sink_fault { result ≡ SinkFault → Rose (K.faults sink.old) (K.faults sink.new) }
+    ensures link_fault { result ≡ LinkFault → Rose (L.faults link.old) (L.faults link.new) }
+    ensures clock_fault { result ≡ ClockFault → Rose (C.faults clock.old) (C.faults clock.new) }
     ensures source_steady { S.faults source.old ≤ S.faults source.new }
     ensures sink_steady { K.faults sink.old ≤ K.faults sink.new }
-    ensures errors_steady { E.faults errors.old ≤ E.faults errors.new }
+    ensures link_steady { L.faults link.old ≤ L.faults link.new }
+    ensures clock_steady { C.faults clock.old ≤ C.faults clock.new }
 {
-    let Some(member) = meaning(words) else {
-        report(errors, Status::BadWords);
-        return Status::BadWords;
-    };
-    let status = replay_alone(alloc, member, source, sink);
+    let status = run_plain_words(alloc, words, source, sink, link, clock);
+    report(errors, status);
+    status
+}
+
+/// All that the program does: what the words ask for, and the line on `errors` where it didn't go well.
+///
+/// The link of a server or client is bound to its address first. A failing `errors` changes no status.
+pub fn run<S: Source, K: Sink, E: Sink, L: Twin, C: Clock>(
+    alloc: Global,
+    words: &[String],
+    source: &mut S,
+    sink: &mut K,
+    errors: &mut E,
+    link: &mut L,
+    clock: &mut C,
+) -> Status
+    // The words are refused where they mean nothing, and only there. Want of memory can come first.
+    ensures refused { result ≡ BadWords → (m : Meaning) → Means (map (λ w. string_bytes w) words.now) m → ⊥ }
+    ensures only_refused { ((m : Meaning) → Means (map (λ w. string_bytes w) words.now) m → ⊥) → IsRefusal result }
+
+    // Else the command ran that they mean.
+    ensures ran { (m : Meaning) → Means (map (λ w. string_bytes w) words.now) m → Runs m (S.left source.old) (S.left source.new)
+        (outside (L.left link.old) (L.sent link.old) (C.left clock.old) (K.written sink.old)) (outside (L.left link.new) (L.sent link.new) (C.left clock.new) (K.written sink.new)) result }
+
+    // How a command ends of a script in its grammar, where nothing failed.
+    ensures complete { (m : Meaning) → Means (map (λ w. string_bytes w) words.now) m → EndsWell m (S.left source.old)
+        (Rose (S.faults source.old) (S.faults source.new)) (Rose (K.faults sink.old) (K.faults sink.new)) (Rose (L.faults link.old) (L.faults link.new)) (Rose (C.faults clock.old) (C.faults clock.new)) result }
+
+    // What the command doesn't use, or where there is none, is left as it was.
+    ensures source_kept { ((m : Meaning) → Means (map (λ w. string_bytes w) words.now) m → UsesScript m → ⊥) → source.new ≡ source.old }
+    ensures sink_kept { ((m : Meaning) → Means (map (λ w. string_bytes w) words.now) m → UsesScript m → ⊥) → sink.new ≡ sink.old }
+    ensures link_kept { ((m : Meaning) → Means (map (λ w. string_bytes w) words.now) m → UsesLink m → ⊥) → link.new ≡ link.old }
+    ensures clock_kept { ((m : Meaning) → Means (map (λ w. string_bytes w) words.now) m → UsesLink m → ⊥) → clock.new ≡ clock.old }
+    ensures lanes { IsKept (L.lanes link.old) (L.lanes link.new) }
+
+    // The errors gain exactly the line of the status, or a front of it where they failed.
+    ensures told { Reports (E.written errors.old) (E.written errors.new) (E.faults errors.old) (E.faults errors.new) (error_text result) }
+    ensures errors_steady { E.faults errors.old ≤ E.faults errors.new }
+
+    ensures source_fault { result ≡ SourceFault → Rose (S.faults source.old) (S.faults source.new) }
+    ensures sink_fault { result ≡ SinkFault → Rose (K.faults sink.old) (K.faults sink.new) }
+    ensures link_fault { result ≡ LinkFault → Rose (L.faults link.old) (L.faults link.new) }
+    ensures clock_fault { result ≡ ClockFault → Rose (C.faults clock.old) (C.faults clock.new) }
+    ensures source_steady { S.faults source.old ≤ S.faults source.new }
+    ensures sink_steady { K.faults sink.old ≤ K.faults sink.new }
+    ensures link_steady { L.faults link.old ≤ L.faults link.new }
+    ensures clock_steady { C.faults clock.old ≤ C.faults clock.new }
+{
+    let status = run_words(alloc, words, source, sink, link, clock);
     report(errors, status);
     status
 }

@@ -8,5 +8,7 @@ mod server;
 #[cfg(test)]
 mod tests;
 mod timers;
+mod writes;
 
 pub use server::Server;
+pub use writes::Writes;

@@ -18,7 +18,8 @@ ghost use Rattle.r2_server.specs.Turn.{calls, is_router, is_taken};
 
 use crate::notices::{push_feedback, push_feedback_for, ready, reply_parts};
 use crate::timers::{Timer, Timers, is_due};
-use hc_service::{Reply, Service};
+use crate::writes::Writes;
+use hc_service::Reply;
 use r2_base::{Addr, Bytes, Datagram, Datagrams, Event, NoMemory, Rid, push_u64};
 use r2_frag::{Added, Assembly, Class, Kept, Key, key_of};
 use r2_header::{Header, Packet, read};
@@ -27,7 +28,7 @@ use std::marker::Model;
 
 /// A server that has had the memory for each of its turns.
 #[derive(Drop)]
-pub(crate) struct Party<V: Service> {
+pub(crate) struct Party<V: Writes> {
     alloc: Global,
     me: Addr,
     router: Option<Addr>,
@@ -41,7 +42,7 @@ pub(crate) struct Party<V: Service> {
     turns: u64,
 }
 
-impl<V: Service> Model for Party<V> {
+impl<V: Writes> Model for Party<V> {
     ghost use Rattle.std.specs.Prelude.{◌≡◌};
     ghost use Rattle.std.specs.Coded.{codes};
     ghost use Rattle.hc_service.specs.State.{contents_code};
@@ -65,7 +66,7 @@ impl<V: Service> Model for Party<V> {
     ghost invariant = { λ a. a.served ≡ (V.state a.service).writes };
 }
 
-impl<V: Service> Party<V> {
+impl<V: Writes> Party<V> {
     ghost use Rattle.r2_server.specs.State.{ServerState, begin};
     ghost use Rattle.r2_server.specs.Turn.{answered, by_answer, first_part, part_added, part_taken, received, received_as, received_part, repeated, replied, ticked, turned, turned_by};
 
@@ -116,7 +117,7 @@ impl<V: Service> Party<V> {
         ensures state { OnOk result (self.new ≡ (replied self.old key.now (serve self.old.service.contents Write body.now)).server) }
         ensures sends { IfOk result (λ sends. sends ≡ (replied self.old key.now (serve self.old.service.contents Write body.now)).sends) }
     {
-        let reply = self.service.apply(self.alloc, body)?;
+        let reply = self.service.write(self.alloc, body)?;
         self.served += 1;
         let payload = payload_of(self.alloc, self.served, &reply)?;
         let mut sends = reply_parts(

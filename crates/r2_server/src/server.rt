@@ -3,7 +3,7 @@ ghost use Rattle.hc_service.specs.State.{new_state};
 ghost use Rattle.r2_server.specs.Sound.{CanTurn, HadTurns, IsSoundUnlessSpent};
 
 use crate::party::Party;
-use hc_service::Service;
+use crate::writes::Writes;
 use r2_base::{Addr, Datagrams, Event, NoMemory};
 use std::alloc::Global;
 use std::marker::Model;
@@ -15,11 +15,11 @@ use std::marker::Model;
 /// that came by the router is given up at the 200th tick, or where 256 others were begun behind it, and the router is told
 /// of each that is answered or given up.
 #[derive(Drop)]
-pub struct Server<V: Service> {
+pub struct Server<V: Writes> {
     party: Option<Party<V>>,
 }
 
-impl<V: Service> Model for Server<V> {
+impl<V: Writes> Model for Server<V> {
     ghost use Rattle.std.specs.Prelude.{Option};
     ghost use Rattle.std.specs.Coded.{codes};
     ghost use Rattle.hc_service.specs.State.{contents_code};
@@ -35,7 +35,7 @@ impl<V: Service> Model for Server<V> {
     ghost invariant = { λ a. IsSoundUnlessSpent a.party };
 }
 
-impl<V: Service> Server<V> {
+impl<V: Writes> Server<V> {
     ghost use Rattle.r2_server.specs.State.{ServerState, begin};
     ghost use Rattle.r2_server.specs.Turn.{turned};
 

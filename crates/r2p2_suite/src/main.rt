@@ -2,13 +2,13 @@
 #![tactic(auto)]
 
 use hc_tops::{Status, report, run};
-use r2_link::{StdErrors, StdSink, StdSource};
+use r2_link::{MonoClock, StdErrors, StdSink, StdSource, UdpLink};
 use std::io::ErrorKind;
 use std::process::ExitCode;
 use std::rt::Env;
 use std::{env, io};
 
-/// The words behind the program's own name.
+/// The words behind the program's own name. Words that aren't text are no words that the program understands.
 fn words(rt: &(impl Env + AllocGlobal)) -> io::Result<Vec<String>> {
     let mut words = Vec::new(rt.alloc());
     for word in env::args(rt)?.skip(1) {
@@ -22,16 +22,24 @@ fn main(rt: HostRuntime) -> ExitCode {
     let mut source = StdSource::new(&rt);
     let mut sink = StdSink::new(&rt);
     let mut errors = StdErrors::new(&rt);
-    let status = match words(&rt) {
-        Ok(words) => run(alloc, words.as_slice(), &mut source, &mut sink, &mut errors),
-        // Words that aren't text are no words that the program understands.
-        Err(error) if error.kind() == ErrorKind::InvalidData => {
-            run(alloc, &[], &mut source, &mut sink, &mut errors)
-        }
+    let mut link = UdpLink::new(&rt);
+    let mut clock = MonoClock::new(&rt);
+    let words = match words(&rt) {
+        Ok(words) => words,
+        Err(error) if error.kind() == ErrorKind::InvalidData => Vec::new(alloc),
         Err(_) => {
             report(&mut errors, Status::Memory);
-            Status::Memory
+            return ExitCode::from(Status::Memory.code());
         }
     };
+    let status = run(
+        alloc,
+        words.as_slice(),
+        &mut source,
+        &mut sink,
+        &mut errors,
+        &mut link,
+        &mut clock,
+    );
     ExitCode::from(status.code())
 }

@@ -1,0 +1,10 @@
+pub mod Passing
+pub mod Courses
+pub mod Rounds
+pub mod Begins
+pub mod Talks
+pub mod Bodies
+pub mod Counts
+pub mod Lines
+pub mod Scripts
+pub mod Grammar

@@ -1,0 +1,8 @@
+pub mod Talk
+pub mod Outside
+pub mod Stops
+pub mod Steps
+pub mod Script
+pub mod Lines
+pub mod Calls
+pub mod Reading

@@ -1,0 +1,29 @@
+ghost use Rattle.std.specs.Prelude.{◌≡◌, ◌≤◌, nat_lt};
+ghost use Rattle.hc_loops.specs.Events.{elapsed};
+ghost use Rattle.hc_loops.specs.Round.{ticked};
+
+/// Counts the ticks of a loop: whole spans of `tick_ms` milliseconds since the start.
+#[derive(Clone, Copy, Debug, PartialEq, Eq)]
+pub struct Ticker {
+    pub start: u64,
+    pub tick_ms: u32,
+    /// The ticks that had gone by at the latest moment.
+    pub reached: u64,
+}
+
+impl Ticker {
+    /// Whether more ticks have gone by at this moment than at any before. Those in between are left out.
+    #[tactic(auto, unfolding(crate::specs::Events::elapsed))]
+    pub fn is_due(&mut self, moment: u64) -> bool
+        requires { 1 ≤ self.old.tick_ms }
+        ensures due { result ≡ nat_lt self.old.reached (elapsed self.old.tick_ms self.old.start moment) }
+        ensures counted { self.new ≡ ticked self.old moment }
+    {
+        let elapsed = moment.saturating_sub(self.start) / u64::from(self.tick_ms);
+        if elapsed <= self.reached {
+            return false;
+        }
+        self.reached = elapsed;
+        true
+    }
+}

@@ -1,0 +1,68 @@
+-- What is heard of a datagram may be stored, and what is kept of it may be heard later.
+use Rattle.std.proofs.Common.{◌≡◌, ◌≤◌, ℕ, List, drop, length, Option, None, Some, refl, subst}
+use Rattle.std.specs.Prelude.{All, Result, Ok, Err}
+use Rattle.r2_base.specs.declared.datagram.Datagram.{Datagram}
+use Rattle.r2_base.specs.declared.event.Event.{Event}
+use Rattle.r2_base.specs.declared.event.Event.TheVariants.{Datagram as DatagramEvent, Tick, Quiet}
+use Rattle.r2_base.specs.declared.entry.Kind.{Kind}
+use Rattle.r2_base.specs.declared.rid.Rid.{Rid}
+use Rattle.r2_header.specs.declared.header.Header.{Header}
+use Rattle.r2_header.specs.declared.header_fault.HeaderFault.{HeaderFault}
+use Rattle.r2_header.specs.Header.{IsValid}
+use Rattle.r2_header.specs.Reading.{header_at}
+use Rattle.r2_header.proofs.Begun.{read_is_valid}
+use Rattle.r2_frag.specs.declared.added.Added.{Added}
+use Rattle.r2_frag.specs.declared.added.Added.TheVariants.{More, Whole as WholeBody, Repeat, Bad, Dropped}
+use Rattle.r2_frag.specs.declared.class.Class.{Class}
+use Rattle.r2_frag.specs.declared.class.Class.TheVariants as class
+use Rattle.r2_frag.specs.declared.key.Key.{Key}
+use Rattle.r2_frag.specs.declared.unfinished.Unfinished.{Unfinished}
+use Rattle.r2_frag.specs.Keys.{class_of, key_at}
+use Rattle.r2_frag.specs.Assembly.{added}
+use Rattle.r2_frag.specs.Sizes.{IsShort, most_bytes}
+use Rattle.r2_frag.proofs.Sizes.{key_at-class, whole_is_short, stays_short}
+use Rattle.hc_replay.specs.Heard.{Hearing, IsShortHeard, kind_under, request_said, hear_request, hear_class, hear_packet, hear_read, hear}
+
+-- what may be stored, and what may be heard later
+abbrev IsShortHearing : Hearing → Type 0
+IsShortHearing x = IsShortHeard x.said × All IsShort x.unfinished
+
+said_short : (kind : Kind) (rid : Rid) (a : Added) → ((body : List ℕ) → a ≡ WholeBody body → length body ≤ 61440) → IsShortHeard (request_said kind rid a)
+said_short kind rid (WholeBody body) h = h body refl
+said_short kind rid More h = tt
+said_short kind rid Repeat h = tt
+said_short kind rid (Bad why) h = tt
+said_short kind rid (Dropped key) h = tt
+
+module _ (unfinished : List Unfinished) (h : Header) (payload : List ℕ) (all : All IsShort unfinished) (valid : IsValid h) where
+  request_short : (key : Key) (kind : Option Kind) → class_of h.packet ≡ Some key.class → key.class ≡ class.Request
+      → IsShortHearing (hear_request unfinished h payload key kind)
+  request_short key None e is = (tt, all)
+  request_short key (Some kind) e is = (
+    said_short kind key.rid (added unfinished key h payload).0
+        (λ body whole. subst (λ (c : Class). length body ≤ most_bytes c) is (whole_is_short unfinished key h payload body all valid e whole)),
+    stays_short unfinished key h payload all valid e,
+  )
+
+  class_short : (key : Key) (c : Class) → class_of h.packet ≡ Some key.class → key.class ≡ c → IsShortHearing (hear_class unfinished h payload key c)
+  class_short key class.Request e is = request_short key (kind_under key.policy) e is
+  class_short key class.Reply e is = (tt, all)
+  class_short key class.Recover e is = (tt, stays_short unfinished key h payload all valid e)
+
+  packet_short : (key : Option Key) → ((k : Key) → key ≡ Some k → class_of h.packet ≡ Some k.class) → IsShortHearing (hear_packet unfinished h payload key)
+  packet_short None e = (tt, all)
+  packet_short (Some key) e = class_short key key.class (e key refl) refl
+
+read_short : (unfinished : List Unfinished) (d : Datagram) (r : Result (Header × ℕ) HeaderFault) → All IsShort unfinished → header_at d.bytes ≡ r
+    → IsShortHearing (hear_read unfinished d r)
+read_short unfinished d (Err fault) all e = (tt, all)
+read_short unfinished d (Ok (h, size)) all e =
+    packet_short unfinished h (drop size d.bytes) all (read_is_valid h size d.bytes e) (key_at d.from d.to h) (λ k f. key_at-class d.from d.to h k f)
+
+-- what an event says may be stored, and what is left unfinished may be heard later
+pub hear_short : (unfinished : List Unfinished) (event : Event) → All IsShort unfinished
+    → IsShortHeard (hear unfinished event).said × All IsShort (hear unfinished event).unfinished
+unfolding hear
+hear_short unfinished (DatagramEvent d) all = read_short unfinished d (header_at d.bytes) all refl
+hear_short unfinished Tick all = (tt, all)
+hear_short unfinished Quiet all = (tt, all)

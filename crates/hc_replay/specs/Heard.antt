@@ -1,0 +1,83 @@
+-- What an event says to a replica, and what it leaves of the messages that aren't whole yet.
+use Rattle.std.specs.Prelude.{ℕ, ◌==◌, ◌≤◌, if◌then◌else◌, List, length, drop, Option, Some, None, Result, Ok, Err}
+use Rattle.r2_base.specs.declared.rid.Rid.{Rid}
+use Rattle.r2_base.specs.declared.datagram.Datagram.{Datagram}
+use Rattle.r2_base.specs.declared.event.Event.{Event}
+use Rattle.r2_base.specs.declared.event.Event.TheVariants.{Datagram as DatagramEvent, Tick, Quiet}
+use Rattle.r2_base.specs.declared.entry.Kind.{Kind}
+use Rattle.r2_base.specs.declared.entry.Kind.TheVariants.{Blank, Write, Read}
+use Rattle.r2_header.specs.declared.header.Header.{Header}
+use Rattle.r2_header.specs.declared.header_fault.HeaderFault.{HeaderFault}
+use Rattle.r2_header.specs.Reading.{header_at}
+use Rattle.r2_frag.specs.declared.added.Added.{Added}
+use Rattle.r2_frag.specs.declared.added.Added.TheVariants.{Whole as WholeBody}
+use Rattle.r2_frag.specs.declared.class.Class.{Class}
+use Rattle.r2_frag.specs.declared.class.Class.TheVariants as class
+use Rattle.r2_frag.specs.declared.key.Key.{Key}
+use Rattle.r2_frag.specs.declared.unfinished.Unfinished.{Unfinished}
+use Rattle.r2_frag.specs.Keys.{key_at}
+use Rattle.r2_frag.specs.Assembly.{added}
+use Rattle.hc_replay.specs.declared.heard.Heard.{Heard}
+use Rattle.hc_replay.specs.declared.heard.Heard.TheVariants.{Nothing, Whole, Time}
+
+-- the policy under which the requests of a kind come and their replies go; a blank entry has none, and no reply
+abbrev pub policy_of : Kind → ℕ
+policy_of Blank = 0
+policy_of Write = 2
+policy_of Read = 3
+
+-- the kind of the requests that come under a policy
+abbrev pub kind_under : ℕ → Option Kind
+kind_under policy = if policy == 2 then Some Write else if policy == 3 then Some Read else None
+
+-- a request with a body that may be stored
+abbrev pub IsShortHeard : Heard → Type 0
+IsShortHeard (Whole r) = length r.body ≤ 61440
+IsShortHeard Nothing = Unit {0}
+IsShortHeard Time = Unit {0}
+
+-- what was heard, and the messages that are unfinished then
+pub record Hearing : Type 0 where
+  pub said : Heard
+  pub unfinished : List Unfinished
+
+-- nothing was heard
+abbrev pub silence : List Unfinished → Hearing
+silence unfinished = record { said = Nothing; unfinished = unfinished }
+
+-- a request that is whole now, if it is
+abbrev pub request_said : Kind → Rid → Added → Heard
+request_said kind rid (WholeBody body) = Whole (record { rid = rid; kind = kind; body = body })
+request_said kind rid _ = Nothing
+
+-- a part of a request, where its policy is one of the group's
+abbrev pub hear_request : List Unfinished → Header → List ℕ → Key → Option Kind → Hearing
+hear_request unfinished h payload key (Some kind) =
+    record {
+      said = request_said kind key.rid (added unfinished key h payload).0;
+      unfinished = (added unfinished key h payload).1;
+    }
+hear_request unfinished h payload key None = silence unfinished
+
+-- a part of a message, by its class: replies aren't for a replica, and nobody is there to recover a body from
+abbrev pub hear_class : List Unfinished → Header → List ℕ → Key → Class → Hearing
+hear_class unfinished h payload key class.Request = hear_request unfinished h payload key (kind_under key.policy)
+hear_class unfinished h payload key class.Reply = silence unfinished
+hear_class unfinished h payload key class.Recover =
+    record { said = Nothing; unfinished = (added unfinished key h payload).1 }
+
+-- a packet, which has a key where it may be a part of several
+abbrev pub hear_packet : List Unfinished → Header → List ℕ → Option Key → Hearing
+hear_packet unfinished h payload (Some key) = hear_class unfinished h payload key key.class
+hear_packet unfinished h payload None = silence unfinished
+
+-- a datagram whose bytes read so
+abbrev pub hear_read : List Unfinished → Datagram → Result (Header × ℕ) HeaderFault → Hearing
+hear_read unfinished d (Ok (h, size)) = hear_packet unfinished h (drop size d.bytes) (key_at d.from d.to h)
+hear_read unfinished d (Err fault) = silence unfinished
+
+-- what an event says to a replica with these unfinished messages
+unfoldable pub hear : List Unfinished → Event → Hearing
+hear unfinished (DatagramEvent d) = hear_read unfinished d (header_at d.bytes)
+hear unfinished Tick = record { said = Time; unfinished = unfinished }
+hear unfinished Quiet = silence unfinished

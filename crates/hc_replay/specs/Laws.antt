@@ -1,0 +1,43 @@
+-- What holds of every replica of a group of one that a script leads to.
+use Rattle.std.specs.Prelude.{◌≡◌, ℕ, ◌==◌, if◌then◌else◌, suc, zero, List, [], ◌∷◌, ◌++◌, take, slice_get, fold, Option, Some, None}
+use Rattle.std.specs.List.{flat_map}
+use Rattle.r2_base.specs.declared.datagram.Datagram.{Datagram}
+use Rattle.r2_frag.specs.declared.kept.KeptReply.{KeptReply}
+use Rattle.r2_frag.specs.Kept.{kept_with}
+use Rattle.hc_service.specs.Replies.{reply_at}
+use Rattle.hc_script.specs.declared.line.Line.{Line}
+use Rattle.hc_replay.specs.declared.setup.Setup.{Setup}
+use Rattle.hc_replay.specs.declared.member.Member.{Member}
+use Rattle.hc_replay.specs.declared.record.Stored.{Stored}
+use Rattle.hc_replay.specs.Member.{begin, own_address}
+use Rattle.hc_replay.specs.Operations.{IsReplayed, operations}
+use Rattle.hc_replay.specs.Replies.{reply_parts}
+use Rattle.hc_replay.specs.Script.{after}
+use Rattle.hc_replay.specs.Turn.{reply_of, due, finished}
+
+-- an entry's reply with this payload, where this member is to give it; a blank entry has none
+abbrev pub own_reply : Setup → Option Stored → Option (List ℕ) → List KeptReply
+own_reply s (Some stored) (Some payload) = if stored.entry.replier == s.me then reply_of stored payload ∷ [] else []
+own_reply s (Some stored) None = []
+own_reply s None payload = []
+
+-- the replies that this member is to give to so many entries behind an index: those of the one-thread service
+unfoldable pub own_replies : Setup → List Stored → ℕ → ℕ → List KeptReply
+own_replies s log index zero = []
+own_replies s log index (suc more) =
+    own_reply s (slice_get log index) (reply_at (operations log) (suc index)) ++ own_replies s log (suc index) more
+
+-- the datagrams of a reply
+abbrev pub datagrams_of : Setup → KeptReply → List Datagram
+datagrams_of s reply = reply_parts (own_address s) reply.policy reply.rid reply.payload
+
+-- a member that keeps what one thread would, and gives that thread's replies to its own entries of the batch that is
+-- due, and no others
+pub record IsOneThread (s : Setup) (m : Member) : Type 0 where
+  pub service : IsReplayed s.me (take m.applied m.log) m.service
+  pub sends : (finished s m).sends ≡ flat_map (datagrams_of s) (own_replies s m.log m.applied (due m).pending)
+  pub kept : (finished s m).member.kept ≡ fold kept_with m.kept (own_replies s m.log m.applied (due m).pending)
+
+-- whatever lines came, the replica keeps and answers what one thread would
+abbrev pub RepliesAreOneThread : Type 0
+RepliesAreOneThread = (s : Setup) (lines : List Line) → IsOneThread s (after s begin lines)

@@ -1,0 +1,15 @@
+pub mod Durable
+pub mod Operations
+pub mod Queues
+pub mod Pool
+pub mod Replies
+pub mod Member
+pub mod Printed
+pub mod Heard
+pub mod Turn
+pub mod Script
+pub mod Replay
+pub mod Playback
+pub mod Closing
+pub mod Grammar
+pub mod Laws

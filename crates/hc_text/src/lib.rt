@@ -1,0 +1,28 @@
+//! What the words of a command line and the lines of a script mean, and the lines that are printed.
+#![tactic(auto)]
+
+mod addr_list;
+mod body;
+mod call;
+mod calls;
+mod client_words;
+mod end;
+pub mod laws;
+mod meant;
+mod options;
+mod policy;
+mod replay_words;
+mod server_words;
+mod value;
+mod words;
+
+pub use call::Call;
+pub use calls::client_line;
+pub use end::end_text;
+pub use hc_script::{Line, TextFault, out_text, rec_text, replay_line};
+pub use meant::Meant;
+pub use policy::{Policy, policy_of};
+pub use words::meaning;
+
+#[cfg(test)]
+mod tests;

@@ -1,0 +1,239 @@
+//! Worked rows: what lines and words mean, and what is printed.
+
+use crate::{Meant, Policy, TextFault, client_line, end_text, meaning, policy_of};
+use r2_base::{Addr, Addrs, Bytes, NoMemory};
+use r2_client::CallEnd;
+use std::alloc::{AllocError, Global};
+use std::test::Fail;
+
+#[test]
+fn lines_of_a_client(rt: HostRuntime) -> Result<(), Fail> {
+    let alloc = rt.alloc();
+    let table: [(&[u8], bool, &[u8]); 13] = [
+        (b"get a", true, b"\x47\x00\x01\x61"),
+        (b"get x:", true, b"\x47\x00\x00"),
+        (b"put a x:", false, b"\x50\x00\x01\x61"),
+        (b"put a 1", false, b"\x50\x00\x01\x61\x31"),
+        (b"put ~ !x:", false, b"\x50\x00\x01\x7e\x21\x78\x3a"),
+        (b"put x:610A x:00fF", false, b"\x50\x00\x02\x61\x0a\x00\xff"),
+        (b"del b", false, b"\x44\x00\x01\x62"),
+        (
+            b"cas a x:01 x:02",
+            false,
+            b"\x43\x00\x01\x61\x00\x01\x01\x02",
+        ),
+        (b"scan x: 10", true, b"\x53\x00\x00\x00\x0a"),
+        (b"scan a 65535", true, b"\x53\x00\x01\x61\xff\xff"),
+        (b"count", true, b"\x4e"),
+        (b"raw r x:4E", true, b"\x4e"),
+        (b"raw w N", false, b"\x4e"),
+    ];
+    for (line, read, body) in table {
+        match client_line(alloc, line) {
+            Ok(call) => {
+                assert!(rt; call.read == read);
+                assert!(rt; call.body.as_slice() == body);
+            }
+            Err(_) => assert!(rt; false),
+        }
+    }
+    Ok(())
+}
+
+#[test]
+fn other_lines_of_a_client(rt: HostRuntime) {
+    let table: [&[u8]; 20] = [
+        b"",
+        b"get",
+        b"get ",
+        b"get a ",
+        b"get  a",
+        b" get a",
+        b"get a b",
+        b"get x:0",
+        b"get x:0g",
+        b"get \x7f",
+        b"GET a",
+        b"put a",
+        b"put a ",
+        b"cas a b",
+        b"scan a 65536",
+        b"scan a 01",
+        b"scan a x:31",
+        b"count ",
+        b"raw x a",
+        b"raw r",
+    ];
+    for line in table {
+        assert!(rt; client_line(rt.alloc(), line) == Err(TextFault::Outside));
+    }
+}
+
+fn replied(alloc: Global, payload: &[u8]) -> Result<CallEnd, AllocError> {
+    Ok(CallEnd::Reply(Bytes::from_vec(payload.to_vec(alloc)?)))
+}
+
+#[test]
+fn ends_of_calls(rt: HostRuntime) -> Result<(), Fail> {
+    let alloc = rt.alloc();
+    let table: [(&[u8], &[u8]); 6] = [
+        (b"\0\0\0\0\0\0\0\x01\0", b"reply 1 0 -\n"),
+        (b"\0\0\0\0\0\0\0\x0a\0\0", b"reply 10 0 00\n"),
+        (b"\0\0\0\0\0\0\x01\0\x02\xab\xcd", b"reply 256 2 ABCD\n"),
+        (
+            b"\xff\xff\xff\xff\xff\xff\xff\xff\xff",
+            b"reply 18446744073709551615 255 -\n",
+        ),
+        (b"\0\0\0\0\0\0\0\x01", b"short 0000000000000001\n"),
+        (b"", b"short -\n"),
+    ];
+    for (payload, line) in table {
+        let end = replied(alloc, payload)?;
+        assert!(rt; end_text(alloc, &end)?.as_slice() == line);
+    }
+    assert!(rt; end_text(alloc, &CallEnd::Rejected)?.as_slice() == b"rejected\n".as_slice());
+    assert!(rt; end_text(alloc, &CallEnd::TimedOut)?.as_slice() == b"timedout\n".as_slice());
+    Ok(())
+}
+
+#[test]
+fn policies_of_calls(rt: HostRuntime) {
+    let table = [
+        (Policy::Fixed, 0, 0),
+        (Policy::Jbsq, 1, 1),
+        (Policy::Replicated, 2, 3),
+    ];
+    for (policy, write, read) in table {
+        assert!(rt; policy_of(policy, false) == write);
+        assert!(rt; policy_of(policy, true) == read);
+    }
+}
+
+const SERVER: Addr = Addr {
+    ip: 0x0a00_0001,
+    port: 9000,
+};
+
+const CLIENT: Addr = Addr {
+    ip: 0x0a00_0009,
+    port: 7001,
+};
+
+/// What the words of the line mean, with one space between words.
+fn meant(alloc: Global, line: &str) -> Result<Result<Meant, TextFault>, NoMemory> {
+    let mut words = Vec::new(alloc);
+    for word in line.split(' ') {
+        words.push(String::from_str(alloc, word)?)?;
+    }
+    Ok(meaning(alloc, words.as_slice()))
+}
+
+fn addrs(alloc: Global, items: &[Addr]) -> Result<Addrs, AllocError> {
+    Ok(Addrs::from_vec(items.to_vec(alloc)?))
+}
+
+#[test]
+fn words_of_a_server(rt: HostRuntime) -> Result<(), Fail> {
+    let alloc = rt.alloc();
+    let plain = Meant::Server {
+        listen: SERVER,
+        router: None,
+        tick_ms: 10,
+        turns: 72_057_594_037_927_936,
+    };
+    assert!(rt; meant(alloc, "server --listen 10.0.0.1:9000")? == Ok(plain));
+    let full = Meant::Server {
+        listen: SERVER,
+        router: Some(CLIENT),
+        tick_ms: 1_000,
+        turns: 1,
+    };
+    assert!(rt;
+        meant(
+            alloc,
+            "server --turns=1 --tick-ms 1000 --router=10.0.0.9:7001 --listen=10.0.0.1:9000"
+        )? == Ok(full)
+    );
+    Ok(())
+}
+
+#[test]
+fn words_of_a_client(rt: HostRuntime) -> Result<(), Fail> {
+    let alloc = rt.alloc();
+    let plain = Meant::Client {
+        listen: CLIENT,
+        to: addrs(alloc, &[SERVER])?,
+        policy: Policy::Fixed,
+        wait: 1,
+        tries: 2,
+        tick_ms: 10,
+        turns: 72_057_594_037_927_936,
+    };
+    let line = "client --listen 10.0.0.9:7001 --to 10.0.0.1:9000 --policy fixed --wait 1 --tries 2";
+    assert!(rt; meant(alloc, line)? == Ok(plain));
+    let full = Meant::Client {
+        listen: CLIENT,
+        to: addrs(alloc, &[SERVER, CLIENT])?,
+        policy: Policy::Replicated,
+        wait: 20,
+        tries: 5,
+        tick_ms: 10,
+        turns: 7,
+    };
+    let line =
+        "client --to 10.0.0.1:9000,10.0.0.9:7001 --policy replicated --listen 10.0.0.9:7001 --turns 7";
+    assert!(rt; meant(alloc, line)? == Ok(full));
+    Ok(())
+}
+
+#[test]
+fn words_of_a_replay(rt: HostRuntime) -> Result<(), Fail> {
+    let alloc = rt.alloc();
+    let alone = Meant::Replay {
+        members: addrs(alloc, &[SERVER])?,
+        me: 0,
+        aggregator: None,
+        bound: 64,
+        election: 1,
+    };
+    assert!(rt; meant(alloc, "replay --members 10.0.0.1:9000 --me 0 --election 1")? == Ok(alone));
+    Ok(())
+}
+
+#[test]
+fn other_words(rt: HostRuntime) -> Result<(), Fail> {
+    let table = [
+        "fly",
+        "",
+        "serve --listen 10.0.0.1:9000",
+        "replay --members 10.0.0.1 --me 0",
+        "replay --members 10.0.0.1:9000 --me 1",
+        "replay --members 10.0.0.1:9000 --me 00",
+        "replay --members 10.0.0.1:9000 --me +0",
+        "replay --members 10.0.0.1:9000 --me 0 --bound 0",
+        "replay --members 10.0.0.1:9000 --me 0 --bound 1025",
+        "replay --members 10.0.0.1:9000 --me 0 --election 1001",
+        "replay --members 10.0.0.1:9000 --me 0 --aggregator 10.0.0.2:9000",
+        "replay --members 10.0.0.1:9000,10.0.0.2:9000 --me 0",
+        "server --listen=",
+        "server --listen 10.0.0.1:9000 --router=",
+        "server --listen 10.0.0.1:9000 --tick-ms 010",
+        "server --listen 10.0.0.1:9000 --tick-ms=-1",
+        "server --listen 10.0.0.1:9000 --turns 72057594037927937",
+        "server --lis 10.0.0.1:9000",
+        "server -- --listen 10.0.0.1:9000",
+        "client --listen 10.0.0.9:7001 --to 10.0.0.1:9000",
+        "client --listen 10.0.0.9:7001 --to 10.0.0.1:9000 --policy Fixed",
+        "client --listen 10.0.0.9:7001 --to 10.0.0.1:9000,10.0.0.1:9000 --policy fixed",
+        "client --listen 10.0.0.9:7001 --to 10.0.0.1:9000, --policy fixed",
+        "client --listen 10.0.0.9:7001 --to 10.0.0.1:1,10.0.0.1:2,10.0.0.1:3,10.0.0.1:4,10.0.0.1:5,10.0.0.1:6,10.0.0.1:7,10.0.0.1:8 --policy fixed",
+    ];
+    for line in table {
+        assert!(rt;
+            meant(rt.alloc(), line)? == Err(TextFault::Outside),
+            "{line}"
+        );
+    }
+    assert!(rt; meaning(rt.alloc(), &[]) == Err(TextFault::Outside));
+    Ok(())
+}

@@ -1,0 +1,74 @@
+-- What the words of a command line make the program do.
+use Rattle.std.specs.Prelude.{◌≡◌, ◌⊎◌, ℕ, ◌≤◌, ◌^◌, List, [], length, Option, Some}
+use Rattle.hc_text.specs.declared.meant.Meant.{Meant}
+use Rattle.hc_text.specs.declared.meant.Meant.TheVariants.{Server, Client, Replay}
+use Rattle.hc_status.specs.declared.status.Status.{Status}
+use Rattle.hc_status.specs.declared.status.Status.TheVariants.{BadWords, LinkFault, Memory}
+use Rattle.hc_loops.specs.Loop.{IsServed, Serves}
+use Rattle.hc_loops.specs.Outside.{Outside as LoopOutside, Passes as LoopPasses}
+use Rattle.hc_calling.specs.Calls.{Calls, DoesNothing, IsCalled}
+use Rattle.hc_calling.specs.Outside.{Outside}
+use Rattle.hc_calling.specs.Script.{IsScript as IsCallScript}
+use Rattle.hc_replay.specs.Grammar.{IsScript}
+use Rattle.hc_replay.specs.Replay.{IsAlone, IsComplete, IsReplay}
+use Rattle.hc_tops.specs.Plain.{PlainSends}
+
+-- the commands that no thread is needed for
+abbrev pub IsPlain : Meant → Type 0
+IsPlain (Server listen router tick_ms turns) = ⊥
+IsPlain (Client listen to policy wait tries tick_ms turns) = Unit {0}
+IsPlain (Replay members me aggregator bound election) = Unit {0}
+
+-- the commands that read a script and print
+abbrev pub UsesScript : Meant → Type 0
+UsesScript (Server listen router tick_ms turns) = ⊥
+UsesScript (Client listen to policy wait tries tick_ms turns) = Unit {0}
+UsesScript (Replay members me aggregator bound election) = Unit {0}
+
+-- the commands that use a link and a clock
+abbrev pub UsesLink : Meant → Type 0
+UsesLink (Server listen router tick_ms turns) = Unit {0}
+UsesLink (Client listen to policy wait tries tick_ms turns) = Unit {0}
+UsesLink (Replay members me aggregator bound election) = ⊥
+
+-- what is refused: words that mean nothing, if they could be read at all
+abbrev pub IsRefusal : Status → Type 0
+IsRefusal BadWords = Unit {0}
+IsRefusal Memory = Unit {0}
+IsRefusal _ = ⊥
+
+-- the numbers of a command are within the limits of the call that runs it
+abbrev pub IsWithin : Meant → Type 0
+IsWithin (Server listen router tick_ms turns) = (1 ≤ tick_ms) × (turns ≤ 2 ^ 56)
+IsWithin (Client listen to policy wait tries tick_ms turns) = (1 ≤ length to) × (length to ≤ 7) × (1 ≤ wait) × (1 ≤ tries) × (1 ≤ tick_ms)
+IsWithin (Replay members me aggregator bound election) =
+    IsAlone (record { members = members; me = me; aggregator = aggregator; bound = bound; election = election })
+
+-- a command that binds its link first: it ran so, or the link couldn't be bound, or memory ran out, and nothing was done
+abbrev pub BehindBinding : Type 0 → (Status → Type 0) → Status → Type 0
+BehindBinding Nothing Ran LinkFault = Nothing ⊎ Ran LinkFault
+BehindBinding Nothing Ran Memory = Nothing ⊎ Ran Memory
+BehindBinding Nothing Ran status = Ran status
+
+-- of the outside, what a server's loop has to do with
+abbrev pub loop_part : Outside → LoopOutside
+loop_part o = record { left = o.left; sent = o.sent; clock = o.clock }
+
+-- a command ran and ended so: what the source had left and has, and the outside before and behind it
+abbrev pub Runs : Meant → Option (List ℕ) → Option (List ℕ) → Outside → Outside → Status → Type 0
+Runs (Server listen router tick_ms turns) left left' old new status =
+    BehindBinding (LoopPasses (loop_part old) (loop_part new) [] [] [])
+    (Serves (PlainSends listen router) (PlainSends listen router) (record { tick_ms = tick_ms; turns = turns }) (loop_part old) (loop_part new)) status
+Runs (Client listen to policy wait tries tick_ms turns) left left' old new status =
+    BehindBinding (DoesNothing left left' old new)
+    (Calls (record { listen = listen; to = to; policy = policy; wait = wait; tries = tries }) (record { tick_ms = tick_ms; turns = turns }) left left' old new) status
+Runs (Replay members me aggregator bound election) left left' old new status =
+    IsReplay (record { members = members; me = me; aggregator = aggregator; bound = bound; election = election }) left left' old.written new.written status
+
+-- how a command ends where its script is in its grammar, and none of its source, sink, link and clock failed
+abbrev pub EndsWell : Meant → Option (List ℕ) → (source sink link clock : Type 0) → Status → Type 0
+EndsWell (Server listen router tick_ms turns) left source sink link clock status = (link → ⊥) → (clock → ⊥) → IsServed status
+EndsWell (Client listen to policy wait tries tick_ms turns) left source sink link clock status =
+    (script : List ℕ) → left ≡ Some script → IsCallScript script → (source → ⊥) → (sink → ⊥) → (link → ⊥) → (clock → ⊥) → IsCalled status
+EndsWell (Replay members me aggregator bound election) left source sink link clock status =
+    (script : List ℕ) → left ≡ Some script → IsScript script → (source → ⊥) → (sink → ⊥) → IsComplete status

@@ -1,9 +1,0 @@
-//! What holds of every replica of a group of one that a script leads to.
-
-ghost use Rattle.hc_tops.specs.Laws.{RepliesAreOneThread};
-
-/// Its service keeps what one thread would that executed the applied entries of its log in their order, and each reply
-/// that it gives is that thread's at the same index of the log.
-pub fn replies_are_one_thread()
-    ensures { RepliesAreOneThread }
-{}

@@ -1,0 +1,13 @@
+pub mod Choices
+pub mod SameNames
+pub mod Copies
+pub mod Index
+pub mod Freed
+pub mod Fitting
+pub mod Chosen
+pub mod Sound
+pub mod Marks
+pub mod Histories
+pub mod Steps
+pub mod Runs
+pub mod Closing

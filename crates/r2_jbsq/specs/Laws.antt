@@ -1,0 +1,47 @@
+-- What holds of every history of a router, whatever events come.
+use Rattle.std.specs.Prelude.{◌≡◌, ℕ, ◌+◌, ◌<◌, ◌≤◌, false, true, List, [], ◌∷◌, ◌++◌, length, count_by, map, sum}
+use Rattle.std.specs.List.{list_any, range_with_len}
+use Rattle.r2_base.specs.declared.event.Event.{Event}
+use Rattle.r2_jbsq.specs.declared.setup.Setup.{Setup}
+use Rattle.r2_base.specs.declared.rid.Rid.{Rid}
+use Rattle.r2_jbsq.specs.Answer.{history_behind, standing_of}
+use Rattle.r2_jbsq.specs.History.{Answer, Mark, is_accept, is_answer, is_forward, open_at, waiting}
+use Rattle.r2_jbsq.specs.Names.{same_rid}
+use Rattle.r2_jbsq.specs.Standing.{is_known}
+
+-- how many requests are open, at all of so many servers together
+abbrev pub open_among : ℕ → List Mark → ℕ
+open_among servers history = sum (map (λ server. length (open_at server history)) (range_with_len 0 servers))
+
+-- at most n requests are open at a server
+abbrev pub HoldsAtMost : ℕ → ℕ → List Mark → Type 0
+HoldsAtMost n servers history = (server : ℕ) → server < servers → length (open_at server history) ≤ n
+
+-- a request waits only while n are open at every server
+abbrev pub WaitsOnlyWhileFull : ℕ → ℕ → List Mark → Type 0
+WaitsOnlyWhileFull n servers history =
+    0 < length (waiting history) → (server : ℕ) → server < servers → length (open_at server history) ≡ n
+
+-- each request that was accepted waits, is open or was answered, and each that was forwarded is open or was answered
+pub record AddsUp (servers : ℕ) (history : List Mark) : Type 0 where
+  pub accepted : count_by is_accept history ≡ length (waiting history) + open_among servers history + count_by is_answer history
+  pub forwarded : count_by is_forward history ≡ open_among servers history + count_by is_answer history
+
+-- so it is behind any events
+abbrev pub ServersHoldAtMostN : Type 0
+ServersHoldAtMostN =
+    (setup : Setup) (events : List Event) → HoldsAtMost setup.n (length setup.servers) (history_behind setup [] events)
+
+abbrev pub RequestsWaitOnlyWhileAllAreFull : Type 0
+RequestsWaitOnlyWhileAllAreFull =
+    (setup : Setup) (events : List Event) → WaitsOnlyWhileFull setup.n (length setup.servers) (history_behind setup [] events)
+
+abbrev pub CountsAddUp : Type 0
+CountsAddUp = (setup : Setup) (events : List Event) → AddsUp (length setup.servers) (history_behind setup [] events)
+
+-- a request that was open at a server is neither open nor waits, once that server has answered it: its name is a new one again
+abbrev pub AnsweredRequestsAreNew : Type 0
+AnsweredRequestsAreNew =
+    (setup : Setup) (events : List Event) (rid : Rid) (server : ℕ) → server < length setup.servers
+    → list_any (same_rid rid) (open_at server (history_behind setup [] events)) ≡ true
+    → is_known rid (standing_of setup (history_behind setup [] events ++ Answer rid server ∷ [])) ≡ false

@@ -1,0 +1,23 @@
+//! What holds of every history of a router, whatever events come.
+
+ghost use Rattle.r2_jbsq.specs.Laws.{AnsweredRequestsAreNew, CountsAddUp, RequestsWaitOnlyWhileAllAreFull, ServersHoldAtMostN};
+
+/// At most n requests are open at a server.
+pub fn servers_hold_at_most_n()
+    ensures { ServersHoldAtMostN }
+{}
+
+/// A request waits only while n are open at every server.
+pub fn requests_wait_only_while_all_are_full()
+    ensures { RequestsWaitOnlyWhileAllAreFull }
+{}
+
+/// Each request that was accepted waits, is open or was answered, and each that was forwarded is open or was answered.
+pub fn counts_add_up()
+    ensures { CountsAddUp }
+{}
+
+/// A request that was open at a server is a new one again, once that server has answered it.
+pub fn answered_requests_are_new()
+    ensures { AnsweredRequestsAreNew }
+{}

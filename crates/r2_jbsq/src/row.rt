@@ -1,0 +1,81 @@
+ghost use Rattle.std.specs.Prelude.{◌≡◌, ◌<◌, ◌++◌, ◌∷◌, [], length, IfOk, option_map};
+ghost use Rattle.r2_jbsq.specs.Standing.{first_of, has, is_for, without};
+
+use crate::Request;
+use r2_base::{NoMemory, Rid};
+use std::alloc::Global;
+use std::marker::Model;
+
+/// The most requests that a server may hold.
+pub(crate) const MAX_HELD: u8 = 16;
+
+/// The requests that are open at one server, the oldest in front. There is room for as many as may be.
+#[derive(Debug, Drop)]
+pub(crate) struct Row {
+    requests: Vec<Request>,
+}
+
+impl Model for Row {
+    ghost use Rattle.std.specs.Prelude.{List, ◌≤◌, vec_capacity};
+    ghost use Rattle.r2_jbsq.specs.declared.request.Request.{Request};
+
+    ghost Value = { List Request };
+
+    ghost view = { λ a. a.requests.items };
+
+    ghost invariant = { λ a. 16 ≤ vec_capacity a.requests };
+}
+
+impl Row {
+    pub(crate) fn new(alloc: Global) -> Result<Row, NoMemory>
+        ensures { IfOk result (λ row. row ≡ []) }
+    {
+        let requests = Vec::with_capacity(alloc, usize::from(MAX_HELD))?;
+        Ok(Row { requests })
+    }
+
+    pub(crate) fn as_slice(&self) -> &[Request]
+        ensures { result.now ≡ self.now }
+    {
+        self.requests.as_slice()
+    }
+
+    pub(crate) fn len(&self) -> usize
+        ensures { result ≡ length self.now }
+    {
+        self.requests.len()
+    }
+
+    /// Whether a request is open here.
+    pub(crate) fn has(&self, rid: &Rid) -> bool
+        ensures { result ≡ has rid.now self.now }
+    {
+        self.requests.iter().any(|request| is_for(rid, request))
+    }
+
+    /// A request comes to the server.
+    pub(crate) fn push(&mut self, request: Request)
+        requires { length self.old < 16 }
+        ensures { self.new ≡ self.old ++ request ∷ [] }
+    {
+        self.requests.push_reserved(request);
+    }
+
+    /// The server is done with a request.
+    #[tactic(auto, unfolding(crate::specs::Standing::without))]
+    pub(crate) fn close(&mut self, rid: &Rid)
+        ensures { self.new ≡ without rid.now self.old }
+    {
+        self.requests.retain(|request| !is_for(rid, request));
+    }
+}
+
+/// Whether this is the request of this name.
+#[tactic(auto, unfolding(crate::specs::Names::same_rid))]
+pub(crate) fn is_for(rid: &Rid, request: &Request) -> bool
+    ensures { result ≡ is_for rid.now request.now }
+{
+    rid.id == request.rid.id
+        && rid.client.ip == request.rid.client.ip
+        && rid.client.port == request.rid.client.port
+}

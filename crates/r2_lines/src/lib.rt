@@ -1,0 +1,13 @@
+//! The lines of a source, one at a time, for commands that read a script line by line.
+#![tactic(auto)]
+
+mod buffer;
+mod front;
+pub mod laws;
+mod line_fault;
+mod line_reader;
+#[cfg(test)]
+mod tests;
+
+pub use line_fault::LineFault;
+pub use line_reader::LineReader;

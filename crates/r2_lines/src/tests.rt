@@ -1,0 +1,67 @@
+use crate::{LineFault, LineReader};
+use r2_base::{Bytes, Numbers};
+use r2_link::MemSource;
+use std::test::Fail;
+
+// What a source has, and its lines.
+const LINES: [(&[u8], &[&[u8]]); 6] = [
+    (b"", &[]),
+    (b"\n", &[b""]),
+    (b"tick\nquiet\n", &[b"tick", b"quiet"]),
+    (b"tick\n\nquiet", &[b"tick", b"", b"quiet"]),
+    (b"tick\r\n", &[b"tick\r"]),
+    (b"\n\r", &[b"", b"\r"]),
+];
+
+#[test]
+fn lines_come_in_order(rt: HostRuntime) -> Result<(), Fail> {
+    let alloc = rt.alloc();
+    for (text, lines) in LINES {
+        let mut source = MemSource::new(Bytes::from_vec(text.to_vec(alloc)?), Numbers::new(alloc));
+        let mut reader = LineReader::new(alloc);
+        for line in lines {
+            let want = Bytes::from_vec(line.to_vec(alloc)?);
+            assert_eq!(rt; reader.next_line(alloc, &mut source)?, Some(want));
+        }
+        assert_eq!(rt; reader.next_line(alloc, &mut source)?, None);
+        assert_eq!(rt; reader.lines(), lines.len() as u64);
+    }
+    Ok(())
+}
+
+// How long a line is, and how long a line is given or why none is, with its end and without.
+const LONG_LINES: [(usize, Result<Option<usize>, LineFault>); 2] = [
+    (8_192, Ok(Some(8_192))),
+    (8_193, Err(LineFault::TooLong)),
+];
+
+#[test]
+fn line_has_8192_bytes_at_most(rt: HostRuntime) -> Result<(), Fail> {
+    let alloc = rt.alloc();
+    for (len, want) in LONG_LINES {
+        for end in ["", "\n", "\nquiet"] {
+            let mut text = vec![in alloc; b'0'; len]?;
+            text.extend_from_slice(end.as_bytes())?;
+            let mut source = MemSource::new(Bytes::from_vec(text), Numbers::new(alloc));
+            let mut reader = LineReader::new(alloc);
+            let got = reader.next_line(alloc, &mut source);
+            assert_eq!(rt; got.map(|line| line.map(|line| line.len())), want);
+        }
+    }
+    Ok(())
+}
+
+#[test]
+fn reading_goes_on_behind_a_fault(rt: HostRuntime) -> Result<(), Fail> {
+    let alloc = rt.alloc();
+    let fails = Numbers::from_vec([1].to_vec(alloc)?);
+    let mut source = MemSource::new(Bytes::from_vec(b"tick\n".to_vec(alloc)?), fails);
+    let mut reader = LineReader::new(alloc);
+    assert_eq!(rt;
+        reader.next_line(alloc, &mut source),
+        Err(LineFault::Source)
+    );
+    let want = Bytes::from_vec(b"tick".to_vec(alloc)?);
+    assert_eq!(rt; reader.next_line(alloc, &mut source)?, Some(want));
+    Ok(())
+}
