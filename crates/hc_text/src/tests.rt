@@ -1,4 +1,4 @@
-//! Worked rows: what lines and words mean, and what is printed.
+//! Examples: what lines and words mean, and what is printed.
 
 use crate::{Meant, Policy, TextFault, client_line, end_text, meaning, policy_of};
 use r2_base::{Addr, Addrs, Bytes, NoMemory};

@@ -231,14 +231,20 @@ out 10.0.0.9:7001 520813C000030001000000000000000401\n";
     Ok(())
 }
 
+/// The first call of the link binds it, and the second receives the link's end.
 #[test]
-fn a_server_needs_a_link_that_binds(rt: HostRuntime) -> Result<(), Fail> {
+fn a_server_binds_its_link_and_then_receives(rt: HostRuntime) -> Result<(), Fail> {
     let alloc = rt.alloc();
     let server = words(alloc, &["server", "--listen", "10.0.0.1:9000"])?;
     for (fails, status, line) in [
         (0, Status::Done, b"".as_slice()),
         (
             1,
+            Status::LinkFault,
+            b"r2p2_suite: the link failed\n".as_slice(),
+        ),
+        (
+            2,
             Status::LinkFault,
             b"r2p2_suite: the link failed\n".as_slice(),
         ),
