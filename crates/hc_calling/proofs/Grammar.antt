@@ -5,7 +5,7 @@ use Rattle.std.proofs.lemmas.List.Elements.{All-head, All-pop, All-tail}
 use Rattle.r2_lines.specs.Texts.{IsText, fed}
 use Rattle.r2_lines.proofs.Texts.{fed-cons, fed-last, fed-none}
 use Rattle.hc_status.specs.declared.status.Status.{Status}
-use Rattle.hc_status.specs.declared.status.Status.TheVariants.{Done, BadWords, BadScript, Memory, SourceFault, SinkFault, LinkFault, ClockFault, TimedOut, IdsUsed, TurnsSpent, NotBuilt}
+use Rattle.hc_status.specs.declared.status.Status.TheVariants.{Done, BadWords, BadScript, Memory, SourceFault, SinkFault, LinkFault, ClockFault, TimedOut, IdsUsed, TurnsSpent}
 use Rattle.hc_text.specs.declared.call.Call.{Call}
 use Rattle.hc_text.specs.declared.policy.Policy.{Policy}
 use Rattle.hc_text.specs.Call.{IsCallLine}
@@ -185,4 +185,3 @@ completes policy room left left' t old new ClockFault script told is ran a b c d
 completes policy room left left' t old new (BadScript number) script told is ran a b c d =
     absurd (never_stuck policy script ran.taken left' ran.asked number is (subst (λ (l : Option (List ℕ)). Consumes l left' ran.taken) told ran.took) ran.ended.1)
 completes policy room left left' t old new BadWords script told is ran a b c d = absurd ran.ended
-completes policy room left left' t old new (NotBuilt number) script told is ran a b c d = absurd ran.ended

@@ -18,7 +18,7 @@ use Rattle.r2_client.specs.Session.{Stepped, ended, sent_again, stepped, ticked 
 use Rattle.r2_client.specs.State.{SessionState}
 use Rattle.r2_client.proofs.Outcomes.{branch, outcome}
 use Rattle.hc_status.specs.declared.status.Status.{Status}
-use Rattle.hc_status.specs.declared.status.Status.TheVariants.{Done, BadWords, BadScript, Memory, SourceFault, SinkFault, LinkFault, ClockFault, TimedOut, IdsUsed, TurnsSpent, NotBuilt}
+use Rattle.hc_status.specs.declared.status.Status.TheVariants.{Done, BadWords, BadScript, Memory, SourceFault, SinkFault, LinkFault, ClockFault, TimedOut, IdsUsed, TurnsSpent}
 use Rattle.hc_status.specs.Stops.{StopsBySink}
 use Rattle.hc_text.specs.End.{end_text}
 use Rattle.hc_loops.specs.declared.ticker.Ticker.{Ticker}
@@ -155,7 +155,6 @@ by-sink room t a b old new ClockFault stops cut = absurd stops
 by-sink room t a b old new TimedOut stops cut = absurd stops
 by-sink room t a b old new IdsUsed stops cut = absurd stops
 by-sink room t a b old new TurnsSpent stops cut = absurd stops
-by-sink room t a b old new (NotBuilt line) stops cut = absurd stops
 
 -- the line of a call that an item ended wasn't printed whole
 pub stops-line-hears : (s : SessionState) (k : Ticker) (item : Item) (end : CallEnd) (l m n : Option (List Item)) (a b d : Option (List Datagram)) (clock w x : Option (List ℕ)) (room old new : ℕ) (status : Status)

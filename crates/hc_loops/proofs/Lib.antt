@@ -1,3 +1,4 @@
 pub mod Told
 pub mod Rounds
 pub mod Loops
+pub mod Weaker

@@ -4,7 +4,7 @@ use Rattle.r2_base.specs.declared.datagram.Datagram.{Datagram}
 use Rattle.r2_link.specs.declared.lane.Item.{Item}
 use Rattle.r2_link.specs.declared.lane.Item.TheVariants.{Datagram as ADatagram, Quiet as NoDatagram}
 use Rattle.r2_link.specs.declared.link.Got.TheVariants.{Datagram as GotDatagram, Quiet as GotQuiet, End}
-use Rattle.r2_link.specs.Told.{IsKept, Gains}
+use Rattle.r2_link.specs.Told.{IsKept, Gains, HasNone, Joins}
 use Rattle.r2_link.specs.Lanes.{Received, SentAtMost}
 use Rattle.r2_link.specs.Moments.{Gives}
 use Rattle.hc_loops.specs.Outside.{Outside, Passes, RanDry, Takes, Tells}
@@ -144,3 +144,12 @@ kept-Gains None b c xs p q = tt
 kept-Gains (Some x) None c xs p q = absurd p
 kept-Gains (Some x) (Some y) None xs p q = absurd q
 kept-Gains (Some x) (Some y) (Some z) xs p q = q ∙ ap (λ l. l ++ xs) p
+
+-- what a twin sent that had sent nothing, the link sent that took it back
+pub Gains-joined : {A : Type 0} (old first last new : Option (List A)) (xs : List A) → HasNone old first → Gains first last xs → Joins old new last → Gains old new xs
+Gains-joined None first last new xs none gave joined = tt
+Gains-joined (Some x) None last new xs none gave joined = absurd none
+Gains-joined (Some x) (Some y) None new xs none gave joined = absurd gave
+Gains-joined (Some x) (Some y) (Some z) None xs none gave joined = absurd joined
+Gains-joined (Some x) (Some y) (Some z) (Some w) xs none gave joined =
+    joined ∙ ap (λ l. x ++ l) (gave ∙ ap (λ l. l ++ xs) none)

@@ -9,9 +9,9 @@ use Rattle.hc_script.specs.declared.line.Line.{Line}
 use Rattle.hc_replay.specs.declared.setup.Setup.{Setup}
 use Rattle.hc_replay.specs.declared.member.Member.{Member}
 use Rattle.hc_status.specs.declared.status.Status.{Status}
-use Rattle.hc_status.specs.declared.status.Status.TheVariants.{Done, BadWords, BadScript, Memory, SourceFault, SinkFault, LinkFault, ClockFault, TimedOut, IdsUsed, TurnsSpent, NotBuilt}
-use Rattle.hc_replay.specs.Script.{IsText, Refusal, Outside, Unbuilt, Say, AreLines, IsBuilt, after, line_turn, line_text, turns_text, fed}
-use Rattle.hc_replay.specs.Playback.{Ran, Advanced, Sticks, Breaks, EndsInside, IsRefusedAs, WritesFront, StopsText, StopsPiece}
+use Rattle.hc_status.specs.declared.status.Status.TheVariants.{Done, BadWords, BadScript, Memory, SourceFault, SinkFault, LinkFault, ClockFault, TimedOut, IdsUsed, TurnsSpent}
+use Rattle.hc_replay.specs.Script.{IsText, Say, AreLines, after, line_turn, line_text, turns_text, fed}
+use Rattle.hc_replay.specs.Playback.{Ran, Advanced, Sticks, Breaks, EndsInside, IsRefused, WritesFront, StopsText, StopsPiece}
 
 fed-append : (xs ys : List (List ℕ)) → fed (xs ++ ys) ≡ fed xs ++ fed ys
 unfolding fed
@@ -50,11 +50,10 @@ AreLines-append xs ys first second a b =
     record {
       each = All-append IsText xs ys a.each b.each;
       said = Say-append xs ys first second a.said b.said;
-      built = All-append IsBuilt first second a.built b.built;
     }
 
 pub AreLines-none : AreLines [] []
-AreLines-none = record { each = λ k d h. absurd (omega (arith, h)); said = refl; built = λ k d h. absurd (omega (arith, h)) }
+AreLines-none = record { each = λ k d h. absurd (omega (arith, h)); said = refl }
 
 pub turns_text-none : (s : Setup) (m : Member) → turns_text s m [] ≡ []
 unfolding turns_text
@@ -106,8 +105,8 @@ module _ (s : Setup) (m n : Member) (p q : List ℕ) (i j : ℕ) (a b c : Option
         unfinished = on.unfinished;
       }
 
-  sticks-then : (why : Refusal) (line : ℕ) → Sticks s why n q j line b c piece' → Sticks s why m p i line a c (piece ++ piece')
-  sticks-then why line on =
+  sticks-then : (line : ℕ) → Sticks s n q j line b c piece' → Sticks s m p i line a c (piece ++ piece')
+  sticks-then line on =
       let long = length-append gone.texts on.texts in
       let ran = gone.ran in
       record {
@@ -140,8 +139,7 @@ module _ (s : Setup) (m n : Member) (p q : List ℕ) (i j : ℕ) (a b c : Option
 
   -- one piece, and then one that isn't taken whole
   pub StopsPiece-then : (status : Status) → StopsPiece s n q j b c piece' status → StopsPiece s m p i a c (piece ++ piece') status
-  StopsPiece-then (BadScript line) on = sticks-then Outside line on
-  StopsPiece-then (NotBuilt line) on = sticks-then Unbuilt line on
+  StopsPiece-then (BadScript line) on = sticks-then line on
   StopsPiece-then SinkFault on = breaks-then on
   StopsPiece-then Memory on = breaks-then on
   StopsPiece-then Done on = absurd on
@@ -158,9 +156,9 @@ ends-more bad [] [] h = h
 ends-more bad [] (b ∷ more) h = inr h
 ends-more bad (b ∷ rest) more h = h
 
-sticks-more : (s : Setup) (why : Refusal) (m : Member) (p : List ℕ) (i line : ℕ) (a b : Option (List ℕ)) (piece more : List ℕ)
-    → Sticks s why m p i line a b piece → Sticks s why m p i line a b (piece ++ more)
-sticks-more s why m p i line a b piece more h =
+sticks-more : (s : Setup) (m : Member) (p : List ℕ) (i line : ℕ) (a b : Option (List ℕ)) (piece more : List ℕ)
+    → Sticks s m p i line a b piece → Sticks s m p i line a b (piece ++ more)
+sticks-more s m p i line a b piece more h =
     record {
       texts = h.texts;
       lines = h.lines;
@@ -190,8 +188,7 @@ breaks-more s m p a b piece more h =
 -- what stopped in a piece stops in a longer one
 pub StopsPiece-more : (s : Setup) (m : Member) (p : List ℕ) (i : ℕ) (a b : Option (List ℕ)) (piece more : List ℕ) (status : Status)
     → StopsPiece s m p i a b piece status → StopsPiece s m p i a b (piece ++ more) status
-StopsPiece-more s m p i a b piece more (BadScript line) h = sticks-more s Outside m p i line a b piece more h
-StopsPiece-more s m p i a b piece more (NotBuilt line) h = sticks-more s Unbuilt m p i line a b piece more h
+StopsPiece-more s m p i a b piece more (BadScript line) h = sticks-more s m p i line a b piece more h
 StopsPiece-more s m p i a b piece more SinkFault h = breaks-more s m p a b piece more h
 StopsPiece-more s m p i a b piece more Memory h = breaks-more s m p a b piece more h
 StopsPiece-more s m p i a b piece more Done h = absurd h
@@ -233,7 +230,7 @@ push-nonempty (b ∷ p) byte e = cc
 
 -- a line that is too long is no line of a script
 pub Sticks-long : (s : Setup) (m : Member) (p : List ℕ) (i line : ℕ) (a : Option (List ℕ)) (byte : ℕ) → IsText p → byte ≢ 10 → 8192 ≤ length p → line ≡ i + 1
-    → Sticks s Outside m p i line a a (byte ∷ [])
+    → Sticks s m p i line a a (byte ∷ [])
 Sticks-long s m p i line a byte is other full counted =
     let long = length-append p (byte ∷ []) in
     record {
@@ -279,8 +276,8 @@ Breaks-text s m text a b (inr front) =
       gave = front.2;
     }
 
-Sticks-text : (s : Setup) (why : Refusal) (m : Member) (text : List ℕ) (i number line : ℕ) (a b : Option (List ℕ)) → IsText text → number ≡ i + 1 → IsRefusedAs why text number line a b → Sticks s why m text i line a b (10 ∷ [])
-Sticks-text s why m text i number line a b is counted h =
+Sticks-text : (s : Setup) (m : Member) (text : List ℕ) (i number line : ℕ) (a b : Option (List ℕ)) → IsText text → number ≡ i + 1 → IsRefused text number line a b → Sticks s m text i line a b (10 ∷ [])
+Sticks-text s m text i number line a b is counted h =
     let line_is = h.counted in
     record {
       texts = [];
@@ -300,8 +297,7 @@ Sticks-text s why m text i number line a b is counted h =
 -- why a line wasn't run up to its end
 pub StopsPiece-line : (s : Setup) (m : Member) (text : List ℕ) (i number : ℕ) (a b : Option (List ℕ)) (status : Status) → IsText text → number ≡ i + 1
     → StopsText s m text number a b status → StopsPiece s m text i a b (10 ∷ []) status
-StopsPiece-line s m text i number a b (BadScript line) is counted h = Sticks-text s Outside m text i number line a b is counted h
-StopsPiece-line s m text i number a b (NotBuilt line) is counted h = Sticks-text s Unbuilt m text i number line a b is counted h
+StopsPiece-line s m text i number a b (BadScript line) is counted h = Sticks-text s m text i number line a b is counted h
 StopsPiece-line s m text i number a b SinkFault is counted h = Breaks-text s m text a b h
 StopsPiece-line s m text i number a b Memory is counted h = Breaks-text s m text a b h
 StopsPiece-line s m text i number a b Done is counted h = absurd h

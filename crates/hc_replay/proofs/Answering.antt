@@ -7,7 +7,7 @@ use Rattle.std.proofs.lemmas.Bool.{cases_Bool}
 use Rattle.std.proofs.lemmas.List.{get_or-reverse, length-reverse}
 use Rattle.r2_base.specs.declared.rid.Rid.{Rid}
 use Rattle.r2_frag.specs.Keys.{same_rid}
-use Rattle.hc_replay.specs.declared.request.Request.{Request}
+use Rattle.hc_pool.specs.declared.request.Request.{Request}
 use Rattle.std.proofs.lemmas.List.Elements.{All-push, All-drop, All-head, All-tail}
 use Rattle.r2_base.specs.declared.entry.Kind.{Kind}
 use Rattle.r2_base.specs.declared.entry.Kind.TheVariants.{Blank, Write, Read}
@@ -16,7 +16,7 @@ use Rattle.r2_frag.specs.declared.kept.KeptReply.{KeptReply}
 use Rattle.r2_frag.specs.Kept.{kept_with, newest}
 use Rattle.hc_replay.specs.declared.setup.Setup.{Setup}
 use Rattle.hc_replay.specs.declared.member.Member.{Member}
-use Rattle.hc_replay.specs.declared.record.Stored.{Stored}
+use Rattle.hc_log.specs.declared.stored.Stored.{Stored}
 use Rattle.hc_service.specs.Service.{Served, serve}
 use Rattle.hc_service.specs.State.{State, after_write, after_admission}
 use Rattle.hc_service.specs.Replies.{payload_of}

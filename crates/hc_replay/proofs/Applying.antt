@@ -8,7 +8,7 @@ use Rattle.r2_base.specs.declared.entry.Kind.TheVariants.{Blank, Write, Read}
 use Rattle.r2_base.specs.declared.datagram.Datagram.{Datagram}
 use Rattle.hc_replay.specs.declared.member.Member.{Member}
 use Rattle.hc_replay.specs.declared.setup.Setup.{Setup}
-use Rattle.hc_replay.specs.declared.record.Stored.{Stored}
+use Rattle.hc_log.specs.declared.stored.Stored.{Stored}
 use Rattle.std.specs.Prelude.{◌==◌, Bool, true, false, if◌then◌else◌}
 use Rattle.hc_service.specs.Service.{Served, serve}
 use Rattle.hc_service.specs.State.{State, after_admission}
@@ -17,6 +17,7 @@ use Rattle.hc_replay.specs.Turn.{Sent, applied_one, applied_all, entry_applied, 
 -- what applying so many entries leaves as it was
 pub record Leaves (m n : Member) (count : ℕ) : Type 0 where
   pub term : n.term ≡ m.term
+  pub vote : n.vote ≡ m.vote
   pub log : n.log ≡ m.log
   pub role : n.role ≡ m.role
   pub commit : n.commit ≡ m.commit
@@ -28,11 +29,11 @@ pub record Leaves (m n : Member) (count : ℕ) : Type 0 where
 
 served_next-leaves : (s : Setup) (m : Member) (stored : Stored) (service : State) (served : Served) → Leaves m (served_next s m stored service served).member 1
 served_next-leaves s m stored service served =
-    record { term = refl; log = refl; role = refl; commit = refl; applied = refl; pending = refl; unfinished = refl; pool = refl; queues = refl }
+    record { term = refl; vote = refl; log = refl; role = refl; commit = refl; applied = refl; pending = refl; unfinished = refl; pool = refl; queues = refl }
 
 passed_over-leaves : (m : Member) → Leaves m (passed_over m).member 1
 passed_over-leaves m =
-    record { term = refl; log = refl; role = refl; commit = refl; applied = refl; pending = refl; unfinished = refl; pool = refl; queues = refl }
+    record { term = refl; vote = refl; log = refl; role = refl; commit = refl; applied = refl; pending = refl; unfinished = refl; pool = refl; queues = refl }
 
 read_by-leaves : (b : Bool) (s : Setup) (m : Member) (stored : Stored) (served : Served)
     → Leaves m (if b then served_next s m stored (after_admission m.service) served else passed_over m).member 1
@@ -52,6 +53,7 @@ leaves_both : (m n o : Member) (i j : ℕ) → Leaves m n i → Leaves n o j →
 leaves_both m n o i j first rest =
     record {
       term = rest.term ∙ first.term;
+      vote = rest.vote ∙ first.vote;
       log = rest.log ∙ first.log;
       role = rest.role ∙ first.role;
       commit = rest.commit ∙ first.commit;
@@ -65,7 +67,7 @@ leaves_both m n o i j first rest =
 pub applied_all-leaves : (s : Setup) (m : Member) (entries : List Stored) → Leaves m (applied_all s m entries).member (length entries)
 unfolding applied_all
 applied_all-leaves s m [] =
-    record { term = refl; log = refl; role = refl; commit = refl; applied = omega arith; pending = refl; unfinished = refl; pool = refl; queues = refl }
+    record { term = refl; vote = refl; log = refl; role = refl; commit = refl; applied = omega arith; pending = refl; unfinished = refl; pool = refl; queues = refl }
 applied_all-leaves s m (stored ∷ more) =
     let n = (applied_one s m stored).member in
     let both = leaves_both m n (applied_all s n more).member 1 (length more) (applied_one-leaves s m stored) (applied_all-leaves s n more) in

@@ -1,27 +1,16 @@
 -- What one more entry adds to the counts of a log.
-use Rattle.std.proofs.Common.{◌≡◌, ℕ, ◌+◌, ◌≤◌, cond, List, [], ◌∷◌, ◌++◌, length, take, drop, slice_get, Some, ap, ◌∙◌, arith, take-append-drop}
+use Rattle.std.proofs.Common.{◌≡◌, ℕ, ◌+◌, ◌≤◌, cond, List, [], ◌∷◌, ◌++◌, take, drop, slice_get, Some, ap, ◌∙◌, arith, take-append-drop}
 use Rattle.std.proofs.lemmas.List.{take_more}
 use Rattle.std.proofs.lemmas.Option.{slice_get_within, get_or_from_slice_get}
 use Rattle.std.specs.Prelude.{Bool, true, false, ◌==◌, ◌&&◌, count_by}
 use Rattle.std.proofs.lemmas.List.Sums.{sum_by-append, sum_by-cons}
 use Rattle.r2_base.specs.declared.entry.Kind.{Kind}
 use Rattle.r2_base.specs.declared.entry.Kind.TheVariants.{Blank, Write, Read}
-use Rattle.hc_replay.specs.declared.record.Stored.{Stored}
-use Rattle.hc_replay.specs.Durable.{requests_of, body_bytes_of, is_request}
+use Rattle.hc_log.specs.declared.stored.Stored.{Stored}
+use Rattle.hc_entry.specs.Entry.{is_request}
+use Rattle.hc_log.specs.Log.{requests_of}
+use Rattle.hc_log.proofs.Counting.{requests_of-append}
 use Rattle.hc_replay.specs.Operations.{is_write, writes_of, is_read, own_reads_of}
-
-pub requests_of_more : (log : List Stored) (s : Stored) → requests_of (log ++ s ∷ []) ≡ requests_of log + cond (is_request s.entry.kind) 1 0
-unfolding requests_of
-requests_of_more log s = omega (arith, sum_by-append (λ s. cond (is_request s.entry.kind) 1 0) log (s ∷ []))
-
-pub body_bytes_of_more : (log : List Stored) (s : Stored) → body_bytes_of (log ++ s ∷ []) ≡ body_bytes_of log + length s.body
-unfolding body_bytes_of
-body_bytes_of_more log s = omega (arith, sum_by-append (λ s. length s.body) log (s ∷ []))
-
--- the requests of two logs, one behind the other
-requests_of-append : (xs ys : List Stored) → requests_of (xs ++ ys) ≡ requests_of xs + requests_of ys
-unfolding requests_of
-requests_of-append xs ys = sum_by-append (λ s. cond (is_request s.entry.kind) 1 0) xs ys
 
 -- a front of a log has no more requests than the log
 requests_of-front : (n : ℕ) (log : List Stored) → requests_of (take n log) ≤ requests_of log

@@ -6,7 +6,7 @@ use Rattle.r2_link.proofs.Streams.{Appends-trans, AppendsFront-longer, AppendsFr
 use Rattle.hc_replay.specs.declared.setup.Setup.{Setup}
 use Rattle.hc_replay.specs.declared.member.Member.{Member}
 use Rattle.hc_status.specs.declared.status.Status.{Status}
-use Rattle.hc_status.specs.declared.status.Status.TheVariants.{Done, BadWords, BadScript, Memory, SourceFault, SinkFault, LinkFault, ClockFault, TimedOut, IdsUsed, TurnsSpent, NotBuilt}
+use Rattle.hc_status.specs.declared.status.Status.TheVariants.{Done, BadWords, BadScript, Memory, SourceFault, SinkFault, LinkFault, ClockFault, TimedOut, IdsUsed, TurnsSpent}
 use Rattle.hc_replay.specs.Script.{after, turns_text, last_text}
 use Rattle.hc_status.specs.Stops.{StopsBySink}
 use Rattle.hc_replay.specs.Playback.{Ran, StopsText, WritesFront}
@@ -20,7 +20,6 @@ writes_end s m text a b (inr front) =
 -- the last text wasn't run
 pub StopsEnd-text : (s : Setup) (m : Member) (text : List ℕ) (number : ℕ) (a b : Option (List ℕ)) (status : Status) → StopsText s m text number a b status → StopsEnd s m text number a b status
 StopsEnd-text s m text number a b (BadScript line) h = h
-StopsEnd-text s m text number a b (NotBuilt line) h = h
 StopsEnd-text s m text number a b SinkFault h = writes_end s m text a b h
 StopsEnd-text s m text number a b Memory h = writes_end s m text a b h
 StopsEnd-text s m text number a b Done h = absurd h
@@ -57,4 +56,3 @@ module _ (s : Setup) (m n : Member) (text : List ℕ) (a b c : Option (List ℕ)
   StopsEnd-closing number f f' IdsUsed why front = absurd why
   StopsEnd-closing number f f' TurnsSpent why front = absurd why
   StopsEnd-closing number f f' (BadScript line) why front = absurd why
-  StopsEnd-closing number f f' (NotBuilt line) why front = absurd why

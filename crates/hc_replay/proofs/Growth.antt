@@ -1,23 +1,22 @@
 -- How a turn makes the log longer, and what its record has.
-use Rattle.std.proofs.Common.{◌≡◌, ℕ, ◌+◌, ◌-◌, ◌≤◌, Bool, true, false, List, [], ◌∷◌, ◌++◌, length, drop, Option, None, Some, refl, sym, ap, subst, ◌∙◌, arith, zero, suc, length-append, length-drop}
-use Rattle.std.specs.Prelude.{nat_lt, nat_le, ◌&&◌, ◌||◌, if◌then◌else◌, All, IfSome}
-use Rattle.std.proofs.lemmas.List.Elements.{All-drop}
+use Rattle.std.proofs.Common.{◌≡◌, ℕ, ◌+◌, ◌-◌, ◌≤◌, Bool, true, false, List, [], ◌∷◌, ◌++◌, length, Option, None, Some, refl, sym, ap, subst, ◌∙◌, arith, zero, suc, length-append}
+use Rattle.std.specs.Prelude.{nat_lt, nat_le, ◌&&◌, ◌||◌, if◌then◌else◌}
 use Rattle.r2_base.specs.declared.datagram.Datagram.{Datagram}
 use Rattle.r2_base.specs.declared.event.Event.{Event}
 use Rattle.hc_replay.specs.declared.setup.Setup.{Setup}
 use Rattle.hc_replay.specs.declared.member.Member.{Member}
 use Rattle.hc_replay.specs.declared.member.Role.{Role}
 use Rattle.hc_replay.specs.declared.member.Role.TheVariants.{Follower, Candidate, Leader}
-use Rattle.hc_replay.specs.declared.request.Request.{Request}
-use Rattle.hc_replay.specs.declared.record.Stored.{Stored}
-use Rattle.hc_replay.specs.Durable.{has_room, stands_in, blank_of, FitsFields}
-use Rattle.hc_replay.specs.Pool.{waits_in}
+use Rattle.hc_pool.specs.declared.request.Request.{Request}
+use Rattle.hc_log.specs.declared.stored.Stored.{Stored}
+use Rattle.hc_log.specs.Log.{has_room, stands_in, blank_of}
+use Rattle.hc_pool.specs.Pool.{waits_in}
 use Rattle.hc_replay.specs.Queues.{choose}
 use Rattle.hc_replay.specs.Member.{IsSound}
 use Rattle.hc_replay.specs.declared.heard.Heard.{Heard}
 use Rattle.hc_replay.specs.declared.heard.Heard.TheVariants.{Nothing, Whole, Time}
 use Rattle.hc_replay.specs.Heard.{IsShortHeard, hear}
-use Rattle.hc_replay.specs.Turn.{Outcome, finished, pooled, waited, is_impatient, stood, won, ticked, row, tick_row, order_to, order_from, order_next, gone_on, ordered, ordering, counting, batched, settled, stored_of, is_stored, request_row, answered_again, stays, hearing, Reacted, reacted_to, reacted, turned}
+use Rattle.hc_replay.specs.Turn.{Outcome, finished, pooled, waited, is_impatient, stood, won, ticked, row, tick_row, order_to, order_from, order_next, gone_on, ordered, ordering, counting, batched, settled, stored_of, request_row, answered_again, stays, hearing, Reacted, reacted_to, reacted, turned}
 use Rattle.hc_replay.proofs.ShortHearing.{hear_short}
 use Rattle.hc_replay.proofs.Sound.{sound-finished, sound-hearing, sound-row, sound-settled}
 
@@ -141,13 +140,6 @@ settled-up_to s keep m =
     let more = ordering-up_to s keep m m.role in
     record { low = omega (arith, more.low, size); high = omega (arith, more.high, size) }
 
-stored_by-fits : (b : Bool) (keep : ℕ) (m : Member) → length m.log ≤ keep + 64 → All (λ (x : Stored). length x.body ≤ 61440) m.log
-    → IfSome (if b then Some (record { term = m.term; vote = m.vote; keep = keep; entries = drop keep m.log }) else None) FitsFields
-stored_by-fits true keep m few short =
-    let size = length-drop keep m.log in
-    record { count = omega (arith, size); bodies = All-drop (λ (x : Stored). length x.body ≤ 61440) keep m.log short }
-stored_by-fits false keep m few short = tt
-
 -- a reaction by its parts
 abbrev pub reaction : Setup → Member → ℕ → ℕ → Member → List Datagram → Reacted
 reaction s m last keep n sends =
@@ -170,17 +162,6 @@ module _ (s : Setup) (m : Member) (said : Heard) (short : IsShortHeard said) (so
   pub sound-reacted_to : IsSound s (reacted_to s m said).member
   unfolding reacted_to
   sound-reacted_to = let o = row s m said in sound-settled s o.keep o.member (sound-row s m said short sound)
-
-  -- its record can be spelled
-  pub reacted_to-fits : IfSome (reacted_to s m said).stored FitsFields
-  unfolding reacted_to stored_of
-  reacted_to-fits =
-      let o = row s m said in
-      let grows = row-grows s m said in
-      let more = settled-up_to s o.keep o.member in
-      let end = sound-settled s o.keep o.member (sound-row s m said short sound) in
-      stored_by-fits (is_stored m.term m.vote (length m.log) o.keep (settled s o.keep o.member)) o.keep (settled s o.keep o.member)
-      (omega (arith, more.high, grows.log.low, grows.log.high, grows.keep)) end.bodies
 
 module _ (s : Setup) (m : Member) (event : Event) (sound : IsSound s m) where
   -- a reaction leaves a sound member

@@ -8,7 +8,10 @@ pub mod Ordering
 pub mod Sound
 pub mod Growth
 pub mod Prints
-pub mod Rids
+pub mod Pools
+pub mod Orderly
+pub mod Storing
+pub mod Recorded
 pub mod Turned
 pub mod Batches
 pub mod Runs

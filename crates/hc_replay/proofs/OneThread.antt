@@ -21,7 +21,7 @@ use Rattle.hc_replay.specs.declared.setup.Setup.{Setup}
 use Rattle.hc_replay.specs.declared.member.Member.{Member}
 use Rattle.hc_replay.specs.declared.member.Role.{Role}
 use Rattle.hc_replay.specs.declared.member.Role.TheVariants.{Follower, Candidate, Leader}
-use Rattle.hc_replay.specs.declared.record.Stored.{Stored}
+use Rattle.hc_log.specs.declared.stored.Stored.{Stored}
 use Rattle.hc_replay.specs.Member.{IsSound, begin}
 use Rattle.hc_replay.specs.Operations.{IsReplayed, operation_of, operations, contents_after}
 use Rattle.hc_replay.specs.Script.{event_of, turn_at, line_turn, after}
@@ -29,7 +29,7 @@ use Rattle.hc_replay.specs.Turn.{Sent, reply_of, reply_sent, reply_kept, served_
 use Rattle.hc_replay.specs.Laws.{own_reply, own_replies, datagrams_of, IsOneThread, RepliesAreOneThread}
 use Rattle.hc_replay.proofs.Applying.{is_first, applied_one-leaves}
 use Rattle.hc_replay.proofs.Replayed.{applied_one-replayed}
-use Rattle.hc_replay.proofs.Sound.{sound-begin, sound-due, length-batch_of}
+use Rattle.hc_replay.proofs.Sound.{sound-begin, sound-restarted, sound-due, length-batch_of}
 use Rattle.hc_replay.proofs.Growth.{sound-turned}
 
 -- the reply to the next entry is what one thread would answer behind the entries that were applied
@@ -177,7 +177,7 @@ one_thread s m sound =
 
 turn_at-sound : (s : Setup) (m : Member) (event : Option Event) → IsSound s m → IsSound s (turn_at s m event).member
 turn_at-sound s m (Some event) sound = sound-turned s m event sound
-turn_at-sound s m None sound = sound
+turn_at-sound s m None sound = sound-restarted s m sound
 
 -- lines lead a sound member to a sound one
 sound-after : (s : Setup) (m : Member) (lines : List Line) → IsSound s m → IsSound s (after s m lines)

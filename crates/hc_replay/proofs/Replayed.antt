@@ -11,7 +11,7 @@ use Rattle.hc_service.specs.Replies.{Operation, after_entry, after_all}
 use Rattle.hc_service.proofs.Changes.{reads_change_nothing}
 use Rattle.hc_replay.specs.declared.setup.Setup.{Setup}
 use Rattle.hc_replay.specs.declared.member.Member.{Member}
-use Rattle.hc_replay.specs.declared.record.Stored.{Stored}
+use Rattle.hc_log.specs.declared.stored.Stored.{Stored}
 use Rattle.hc_replay.specs.Operations.{IsReplayed, operation_of, operations, contents_after, is_write, writes_of, is_read, own_reads_of}
 use Rattle.hc_replay.specs.Turn.{served_next, passed_over, entry_applied, applied_one, applied_all}
 use Rattle.hc_replay.proofs.Counts.{front-next, writes_of-next, own_reads_of-next}

@@ -7,10 +7,10 @@ use Rattle.hc_script.specs.declared.line.Line.{Line}
 use Rattle.hc_replay.specs.declared.setup.Setup.{Setup}
 use Rattle.hc_replay.specs.declared.member.Member.{Member}
 use Rattle.hc_status.specs.declared.status.Status.{Status}
-use Rattle.hc_status.specs.declared.status.Status.TheVariants.{Done, BadWords, BadScript, Memory, SourceFault, SinkFault, LinkFault, ClockFault, TimedOut, IdsUsed, TurnsSpent, NotBuilt}
+use Rattle.hc_status.specs.declared.status.Status.TheVariants.{Done, BadWords, BadScript, Memory, SourceFault, SinkFault, LinkFault, ClockFault, TimedOut, IdsUsed, TurnsSpent}
 use Rattle.hc_replay.specs.Member.{begin}
-use Rattle.hc_replay.specs.Script.{AreLines, Refusal, Outside, Unbuilt, fed, after, turns_text, last_text, script_text}
-use Rattle.hc_replay.specs.Playback.{Advanced, EndsInside, IsRefusedAs, Sticks, StopsPiece}
+use Rattle.hc_replay.specs.Script.{AreLines, fed, after, turns_text, last_text, script_text}
+use Rattle.hc_replay.specs.Playback.{Advanced, EndsInside, IsRefused, Sticks, StopsPiece}
 use Rattle.hc_replay.specs.Closing.{Closes, StopsEnd, WritesEnd, ending_text}
 use Rattle.hc_replay.specs.Grammar.{IsScript}
 use Rattle.hc_replay.proofs.Scripts.{no_stranger}
@@ -29,12 +29,12 @@ line_end : (left : Option (List ℕ)) (bad rest : List ℕ) → EndsInside bad r
 line_end left bad [] h = inr h
 line_end left bad (b ∷ rest) h = h
 
--- a line that isn't run, behind what was taken before
-stuck-of : (s : Setup) (why : Refusal) (left : Option (List ℕ)) (a b : Option (List ℕ)) (taken : List ℕ) (line : ℕ) → Sticks s why begin [] 0 line a b taken
-    → (lines : List Line) × IsStuck why left taken lines line × Appends a b (turns_text s begin lines)
-stuck-of s why left a b taken line h =
+-- a text that is no line, behind what was taken before
+stuck-of : (s : Setup) (left : Option (List ℕ)) (a b : Option (List ℕ)) (taken : List ℕ) (line : ℕ) → Sticks s begin [] 0 line a b taken
+    → (lines : List Line) × IsStuck left taken lines line × Appends a b (turns_text s begin lines)
+stuck-of s left a b taken line h =
     let number = h.number in
-    let is : IsStuck why left taken h.lines line =
+    let is : IsStuck left taken h.lines line =
     record {
       texts = h.texts;
       bad = h.bad;
@@ -51,8 +51,7 @@ stuck-of s why left a b taken line h =
 
 -- what stopped a piece behind what was taken before
 pub stopped-of : (s : Setup) (left : Option (List ℕ)) (a b : Option (List ℕ)) (taken : List ℕ) (status : Status) → StopsPiece s begin [] 0 a b taken status → Replays s left taken a b status
-stopped-of s left a b taken (BadScript line) h = stuck-of s Outside left a b taken line h
-stopped-of s left a b taken (NotBuilt line) h = stuck-of s Unbuilt left a b taken line h
+stopped-of s left a b taken (BadScript line) h = stuck-of s left a b taken line h
 stopped-of s left a b taken SinkFault h =
     let is : IsFront taken h.lines = record { texts = h.texts; rest = h.rest; known = h.known; split = h.split } in inl (h.lines, is, h.gave)
 stopped-of s left a b taken Memory h =
@@ -104,14 +103,14 @@ module _ (s : Setup) (m : Member) (rest : List ℕ) (count : ℕ) (left a b c : 
       let ran = gone.ran in
       inr (ran.lines ++ front.0, whole_of front.0 front.1, subst (AppendsFront a c) (whole_text front.0) (AppendsFront-then a b c _ _ front.2 ran.gave))
 
-  stuck_of : (why : Refusal) (line : ℕ) → IsRefusedAs why rest (count + 1) line b c
-      → (lines : List Line) × IsStuck why left taken lines line × Appends a c (turns_text s begin lines)
-  stuck_of why line h =
+  stuck_of : (line : ℕ) → IsRefused rest (count + 1) line b c
+      → (lines : List Line) × IsStuck left taken lines line × Appends a c (turns_text s begin lines)
+  stuck_of line h =
       let ran = gone.ran in
       let line_is = h.counted in
       let number = gone.number in
       let unfinished = gone.unfinished in
-      let is : IsStuck why left taken ran.lines line =
+      let is : IsStuck left taken ran.lines line =
       record {
         texts = gone.texts;
         bad = rest;
@@ -128,8 +127,7 @@ module _ (s : Setup) (m : Member) (rest : List ℕ) (count : ℕ) (left a b c : 
 
   -- the end of the script wasn't run whole
   pub unended-of : (status : Status) → StopsEnd s m rest (count + 1) b c status → Replays s left taken a c status
-  unended-of (BadScript line) h = stuck_of Outside line h
-  unended-of (NotBuilt line) h = stuck_of Unbuilt line h
+  unended-of (BadScript line) h = stuck_of line h
   unended-of SinkFault h = part_of h
   unended-of Memory h = part_of h
   unended-of Done h = absurd h
@@ -147,13 +145,12 @@ nothing-of s left a =
     let is : IsFront [] [] = record { texts = []; rest = []; known = AreLines-none; split = sym (append-nil (fed []) ∙ fed-none) } in
     record { taken = []; took = Consumes-nil left; did = inl ([], is, AppendsFront-nothing a a (turns_text s begin []) (Keeps-refl a)) }
 
--- a script in its grammar is run to its end, unless something failed or a line isn't built
+-- a script in its grammar is run to its end, unless something failed
 pub complete-of : (s : Setup) (script : List ℕ) (left' written written' : Option (List ℕ)) (status : Status)
     → IsScript script → IsReplay s (Some script) left' written written' status → (status ≡ SourceFault → ⊥) → (status ≡ SinkFault → ⊥) → IsComplete status
 complete-of s script left' w w' Done is ran source sink = tt
 complete-of s script left' w w' Memory is ran source sink = tt
 complete-of s script left' w w' TurnsSpent is ran source sink = tt
-complete-of s script left' w w' (NotBuilt number) is ran source sink = tt
 complete-of s script left' w w' (BadScript number) is ran source sink =
     let stuck = ran.did.1 in
     let known = stuck.known in

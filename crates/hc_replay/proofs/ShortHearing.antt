@@ -1,10 +1,12 @@
 -- What is heard of a datagram may be stored, and what is kept of it may be heard later.
 use Rattle.std.proofs.Common.{◌≡◌, ◌≤◌, ℕ, List, drop, length, Option, None, Some, refl, subst}
-use Rattle.std.specs.Prelude.{All, Result, Ok, Err}
+use Rattle.std.specs.Prelude.{All, Result, Ok, Err, Bool, true, false, ◌==◌, if◌then◌else◌}
 use Rattle.r2_base.specs.declared.datagram.Datagram.{Datagram}
 use Rattle.r2_base.specs.declared.event.Event.{Event}
 use Rattle.r2_base.specs.declared.event.Event.TheVariants.{Datagram as DatagramEvent, Tick, Quiet}
 use Rattle.r2_base.specs.declared.entry.Kind.{Kind}
+use Rattle.r2_base.specs.declared.entry.Kind.TheVariants.{Write, Read}
+use Rattle.hc_entry.specs.Entry.{is_request}
 use Rattle.r2_base.specs.declared.rid.Rid.{Rid}
 use Rattle.r2_header.specs.declared.header.Header.{Header}
 use Rattle.r2_header.specs.declared.header_fault.HeaderFault.{HeaderFault}
@@ -27,25 +29,35 @@ use Rattle.hc_replay.specs.Heard.{Hearing, IsShortHeard, kind_under, request_sai
 abbrev IsShortHearing : Hearing → Type 0
 IsShortHearing x = IsShortHeard x.said × All IsShort x.unfinished
 
-said_short : (kind : Kind) (rid : Rid) (a : Added) → ((body : List ℕ) → a ≡ WholeBody body → length body ≤ 61440) → IsShortHeard (request_said kind rid a)
-said_short kind rid (WholeBody body) h = h body refl
-said_short kind rid More h = tt
-said_short kind rid Repeat h = tt
-said_short kind rid (Bad why) h = tt
-said_short kind rid (Dropped key) h = tt
+said_short : (kind : Kind) (rid : Rid) (a : Added) → is_request kind ≡ true → ((body : List ℕ) → a ≡ WholeBody body → length body ≤ 61440)
+    → IsShortHeard (request_said kind rid a)
+said_short kind rid (WholeBody body) asks h = record { asks = asks; body = h body refl }
+said_short kind rid More asks h = tt
+said_short kind rid Repeat asks h = tt
+said_short kind rid (Bad why) asks h = tt
+said_short kind rid (Dropped key) asks h = tt
+
+-- the requests of a group are to write or to read
+asks_by : (writes reads : Bool) (kind : Kind) → (if writes then Some Write else if reads then Some Read else None) ≡ Some kind → is_request kind ≡ true
+asks_by true reads kind e = let same : Write ≡ kind = cc in subst (λ (k : Kind). is_request k ≡ true) same refl
+asks_by false true kind e = let same : Read ≡ kind = cc in subst (λ (k : Kind). is_request k ≡ true) same refl
+asks_by false false kind e = cc
+
+kind_under-asks : (policy : ℕ) (kind : Kind) → kind_under policy ≡ Some kind → is_request kind ≡ true
+kind_under-asks policy kind e = asks_by (policy == 2) (policy == 3) kind e
 
 module _ (unfinished : List Unfinished) (h : Header) (payload : List ℕ) (all : All IsShort unfinished) (valid : IsValid h) where
   request_short : (key : Key) (kind : Option Kind) → class_of h.packet ≡ Some key.class → key.class ≡ class.Request
-      → IsShortHearing (hear_request unfinished h payload key kind)
-  request_short key None e is = (tt, all)
-  request_short key (Some kind) e is = (
-    said_short kind key.rid (added unfinished key h payload).0
+      → ((k : Kind) → kind ≡ Some k → is_request k ≡ true) → IsShortHearing (hear_request unfinished h payload key kind)
+  request_short key None e is asks = (tt, all)
+  request_short key (Some kind) e is asks = (
+    said_short kind key.rid (added unfinished key h payload).0 (asks kind refl)
         (λ body whole. subst (λ (c : Class). length body ≤ most_bytes c) is (whole_is_short unfinished key h payload body all valid e whole)),
     stays_short unfinished key h payload all valid e,
   )
 
   class_short : (key : Key) (c : Class) → class_of h.packet ≡ Some key.class → key.class ≡ c → IsShortHearing (hear_class unfinished h payload key c)
-  class_short key class.Request e is = request_short key (kind_under key.policy) e is
+  class_short key class.Request e is = request_short key (kind_under key.policy) e is (kind_under-asks key.policy)
   class_short key class.Reply e is = (tt, all)
   class_short key class.Recover e is = (tt, stays_short unfinished key h payload all valid e)
 

@@ -8,16 +8,16 @@ use Rattle.hc_replay.specs.declared.setup.Setup.{Setup}
 use Rattle.hc_replay.specs.declared.member.Member.{Member}
 use Rattle.hc_replay.specs.declared.member.Role.{Role}
 use Rattle.hc_replay.specs.declared.member.Role.TheVariants.{Follower, Candidate, Leader}
-use Rattle.hc_replay.specs.declared.request.Request.{Request}
-use Rattle.hc_replay.specs.declared.record.Stored.{Stored}
-use Rattle.hc_replay.specs.Durable.{has_room, stands_in, blank_of, requests_of}
+use Rattle.hc_pool.specs.declared.request.Request.{Request}
+use Rattle.hc_log.specs.declared.stored.Stored.{Stored}
+use Rattle.hc_log.specs.Log.{has_room, stands_in, blank_of, requests_of}
 use Rattle.hc_replay.specs.Operations.{IsReplayed}
-use Rattle.hc_replay.specs.Pool.{waits_in}
+use Rattle.hc_pool.specs.Pool.{waits_in}
 use Rattle.hc_replay.specs.Queues.{choose}
 use Rattle.std.specs.FinMap as finite
 use Rattle.std.specs.Ordering.{nat_cmp}
 use Rattle.std.specs.Cmp.Lexicographic.{slice_cmp}
-use Rattle.hc_replay.specs.Member.{AreShort, begin, IsSound}
+use Rattle.hc_replay.specs.Member.{AreShort, anew, begin, restarted, IsSound}
 use Rattle.hc_replay.specs.declared.heard.Heard.{Heard}
 use Rattle.hc_replay.specs.declared.heard.Heard.TheVariants.{Nothing, Whole, Time}
 use Rattle.hc_replay.specs.Heard.{IsShortHeard}
@@ -27,8 +27,9 @@ use Rattle.std.proofs.lemmas.List.{take-append-le}
 use Rattle.hc_replay.proofs.Applying.{Leaves, applied_all-leaves}
 use Rattle.hc_replay.proofs.Answering.{CanAnswer, applied_all-answers}
 use Rattle.hc_replay.proofs.ShortHearing.{hear_short}
-use Rattle.hc_replay.proofs.Ordering.{has_room-short, has_room-few}
-use Rattle.hc_replay.proofs.Counts.{requests_of_more, one_request}
+use Rattle.hc_replay.proofs.Ordering.{has_room-parts}
+use Rattle.hc_log.proofs.Counting.{requests_of_more}
+use Rattle.hc_replay.proofs.Counts.{one_request}
 use Rattle.hc_replay.proofs.Replayed.{replayed-begin, applied_all-replayed}
 use Rattle.r2_frag.specs.Sizes.{IsShort}
 use Rattle.r2_base.specs.declared.event.Event.{Event}
@@ -48,7 +49,7 @@ front-stays log stored n within = sym (take-append-le n log (stored ∷ []) with
 
 -- a member that has nothing is sound
 pub sound-begin : (s : Setup) → IsSound s begin
-unfolding begin
+unfolding anew
 sound-begin s =
     record {
       batch = omega arith;
@@ -62,6 +63,25 @@ sound-begin s =
       service = replayed-begin s.me;
       requests = nothing_asked;
       replies = λ k d h. absurd (omega (arith, h));
+      queued = λ leads. cc;
+    }
+
+-- a restart leaves a sound member
+pub sound-restarted : (s : Setup) (m : Member) → IsSound s m → IsSound s (restarted m)
+unfolding anew
+sound-restarted s m h =
+    record {
+      batch = omega arith;
+      committed = omega arith;
+      log_fits = h.log_fits;
+      term_fits = h.term_fits;
+      bodies = h.bodies;
+      pool_bodies = λ k d inside. absurd (omega (arith, inside));
+      unfinished = λ k d inside. absurd (omega (arith, inside));
+      values = no_values;
+      service = replayed-begin s.me;
+      requests = h.requests;
+      replies = λ k d inside. absurd (omega (arith, inside));
       queued = λ leads. cc;
     }
 
@@ -256,8 +276,7 @@ module _ (s : Setup) where
   sound-order_to m r rest replier room is h =
       let ordered : Stored = record { entry = record { term = m.term; kind = r.kind; rid = r.rid; replier = replier }; body = r.body } in
       let long = length-append m.log (ordered ∷ []) in
-      let short = has_room-short m.log r.body room in
-      let few = has_room-few m.log r.body room in
+      let has = has_room-parts m.log r.body room in
       let front = front-stays m.log ordered m.applied (omega (arith, h.batch, h.committed)) in
       let more = requests_of_more m.log ordered in
       let one = one_request r.kind in
@@ -265,14 +284,14 @@ module _ (s : Setup) where
       record {
         batch = h.batch;
         committed = omega (arith, long, h.committed);
-        log_fits = omega (arith, long, short);
+        log_fits = omega (arith, long, has.entries);
         term_fits = h.term_fits;
         bodies = All-push (λ (x : Stored). length x.body ≤ 61440) m.log ordered h.bodies (All-head (λ (x : Request). length x.body ≤ 61440) r rest pool_bodies);
         pool_bodies = All-tail (λ (x : Request). length x.body ≤ 61440) r rest pool_bodies;
         unfinished = h.unfinished;
         values = h.values;
         service = subst (λ (l : List Stored). IsReplayed s.me l m.service) front h.service;
-        requests = omega (arith, more, few, one);
+        requests = omega (arith, more, has.requests, one);
         replies = h.replies;
         queued = λ leads. length-set m.queues replier (slice_index_or m.queues replier [] ++ (length m.log + 1) ∷ []) ∙ h.queued leads;
       }
@@ -391,5 +410,5 @@ module _ (s : Setup) where
   pub sound-row : (m : Member) (h : Heard) → IsShortHeard h → IsSound s m → IsSound s (row s m h).member
   unfolding row
   sound-row m Nothing short h = h
-  sound-row m (Whole r) short h = sound-request m r short h
+  sound-row m (Whole r) short h = sound-request m r short.body h
   sound-row m Time short h = sound-tick_row m m.role h

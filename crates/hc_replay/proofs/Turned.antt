@@ -6,7 +6,7 @@ use Rattle.r2_base.specs.declared.datagram.Datagram.{Datagram}
 use Rattle.r2_base.specs.declared.event.Event.{Event}
 use Rattle.hc_replay.specs.declared.setup.Setup.{Setup}
 use Rattle.hc_replay.specs.declared.member.Member.{Member}
-use Rattle.hc_replay.specs.declared.record.Record.{Record}
+use Rattle.hc_log.specs.declared.record.Record.{Record}
 use Rattle.hc_script.specs.Printed.{out_text}
 use Rattle.hc_replay.specs.Printed.{stored_text, turn_text}
 use Rattle.hc_replay.specs.declared.heard.Heard.{Heard}

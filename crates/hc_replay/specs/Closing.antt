@@ -6,9 +6,9 @@ use Rattle.hc_script.specs.declared.line.Line.{Line}
 use Rattle.hc_replay.specs.declared.setup.Setup.{Setup}
 use Rattle.hc_replay.specs.declared.member.Member.{Member}
 use Rattle.hc_status.specs.declared.status.Status.{Status}
-use Rattle.hc_status.specs.declared.status.Status.TheVariants.{Done, BadWords, BadScript, Memory, SourceFault, SinkFault, LinkFault, ClockFault, TimedOut, IdsUsed, TurnsSpent, NotBuilt}
-use Rattle.hc_replay.specs.Script.{AreLines, Outside, Unbuilt, after, turns_text, last_text}
-use Rattle.hc_replay.specs.Playback.{IsRefusedAs}
+use Rattle.hc_status.specs.declared.status.Status.TheVariants.{Done, BadWords, BadScript, Memory, SourceFault, SinkFault, LinkFault, ClockFault, TimedOut, IdsUsed, TurnsSpent}
+use Rattle.hc_replay.specs.Script.{AreLines, after, turns_text, last_text}
+use Rattle.hc_replay.specs.Playback.{IsRefused}
 
 -- what the last text prints as a line, and what the member prints behind it
 abbrev pub ending_text : Setup → Member → List Line → List ℕ
@@ -27,8 +27,7 @@ WritesEnd s m text old new =
 
 -- why the end wasn't run whole
 abbrev pub StopsEnd : Setup → Member → List ℕ → ℕ → Option (List ℕ) → Option (List ℕ) → Status → Type 0
-StopsEnd s m text number old new (BadScript line) = IsRefusedAs Outside text number line old new
-StopsEnd s m text number old new (NotBuilt line) = IsRefusedAs Unbuilt text number line old new
+StopsEnd s m text number old new (BadScript line) = IsRefused text number line old new
 StopsEnd s m text number old new SinkFault = WritesEnd s m text old new
 StopsEnd s m text number old new Memory = WritesEnd s m text old new
 StopsEnd s m text number old new Done = ⊥

@@ -1,5 +1,5 @@
 -- What an event says to a replica, and what it leaves of the messages that aren't whole yet.
-use Rattle.std.specs.Prelude.{ℕ, ◌==◌, ◌≤◌, if◌then◌else◌, List, length, drop, Option, Some, None, Result, Ok, Err}
+use Rattle.std.specs.Prelude.{ℕ, ◌==◌, if◌then◌else◌, List, drop, Option, Some, None, Result, Ok, Err}
 use Rattle.r2_base.specs.declared.rid.Rid.{Rid}
 use Rattle.r2_base.specs.declared.datagram.Datagram.{Datagram}
 use Rattle.r2_base.specs.declared.event.Event.{Event}
@@ -17,6 +17,7 @@ use Rattle.r2_frag.specs.declared.key.Key.{Key}
 use Rattle.r2_frag.specs.declared.unfinished.Unfinished.{Unfinished}
 use Rattle.r2_frag.specs.Keys.{key_at}
 use Rattle.r2_frag.specs.Assembly.{added}
+use Rattle.hc_pool.specs.Pool.{MayWait}
 use Rattle.hc_replay.specs.declared.heard.Heard.{Heard}
 use Rattle.hc_replay.specs.declared.heard.Heard.TheVariants.{Nothing, Whole, Time}
 
@@ -30,9 +31,9 @@ policy_of Read = 3
 abbrev pub kind_under : ℕ → Option Kind
 kind_under policy = if policy == 2 then Some Write else if policy == 3 then Some Read else None
 
--- a request with a body that may be stored
+-- a request that may wait to be ordered
 abbrev pub IsShortHeard : Heard → Type 0
-IsShortHeard (Whole r) = length r.body ≤ 61440
+IsShortHeard (Whole r) = MayWait r
 IsShortHeard Nothing = Unit {0}
 IsShortHeard Time = Unit {0}
 

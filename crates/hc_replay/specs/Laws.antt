@@ -6,10 +6,15 @@ use Rattle.r2_frag.specs.declared.kept.KeptReply.{KeptReply}
 use Rattle.r2_frag.specs.Kept.{kept_with}
 use Rattle.hc_service.specs.Replies.{reply_at}
 use Rattle.hc_script.specs.declared.line.Line.{Line}
+use Rattle.hc_script.specs.declared.line.Line.TheVariants.{Restart}
 use Rattle.hc_replay.specs.declared.setup.Setup.{Setup}
 use Rattle.hc_replay.specs.declared.member.Member.{Member}
-use Rattle.hc_replay.specs.declared.record.Stored.{Stored}
-use Rattle.hc_replay.specs.Member.{begin, own_address}
+use Rattle.hc_log.specs.declared.stored.Stored.{Stored}
+use Rattle.hc_log.specs.Durable.{replay, IsHistory}
+use Rattle.hc_replay.specs.Durable.{durable_of}
+use Rattle.hc_replay.specs.Member.{anew, begin, own_address}
+use Rattle.hc_replay.specs.Records.{records_of}
+use Rattle.hc_replay.specs.Replay.{IsAlone}
 use Rattle.hc_replay.specs.Operations.{IsReplayed, operations}
 use Rattle.hc_replay.specs.Replies.{reply_parts}
 use Rattle.hc_replay.specs.Script.{after}
@@ -37,6 +42,19 @@ pub record IsOneThread (s : Setup) (m : Member) : Type 0 where
   pub service : IsReplayed s.me (take m.applied m.log) m.service
   pub sends : (finished s m).sends ≡ flat_map (datagrams_of s) (own_replies s m.log m.applied (due m).pending)
   pub kept : (finished s m).member.kept ≡ fold kept_with m.kept (own_replies s m.log m.applied (due m).pending)
+
+-- the records of the turns that these lines make, and the member behind them
+pub record LeadToTheMember (s : Setup) (lines : List Line) : Type 0 where
+  -- each may come next behind those before it
+  pub history : IsHistory (records_of s begin lines)
+  -- one after another, they lead to what the member keeps over a crash
+  pub state : replay (records_of s begin lines) ≡ durable_of (after s begin lines)
+  -- and a restart makes the member anew from where they lead
+  pub restart : after s begin (lines ++ Restart ∷ []) ≡ anew (replay (records_of s begin lines))
+
+-- whatever lines came, restarts among them, the records of a group of one lead to what its member keeps over a crash
+abbrev pub RecordsLeadToTheMember : Type 0
+RecordsLeadToTheMember = (s : Setup) (lines : List Line) → IsAlone s → LeadToTheMember s lines
 
 -- whatever lines came, the replica keeps and answers what one thread would
 abbrev pub RepliesAreOneThread : Type 0

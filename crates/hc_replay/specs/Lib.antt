@@ -1,13 +1,13 @@
 pub mod Durable
 pub mod Operations
 pub mod Queues
-pub mod Pool
 pub mod Replies
 pub mod Member
 pub mod Printed
 pub mod Heard
 pub mod Turn
 pub mod Script
+pub mod Records
 pub mod Replay
 pub mod Playback
 pub mod Closing

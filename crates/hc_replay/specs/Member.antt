@@ -1,5 +1,5 @@
 -- A member of a group as it begins, and what holds of every member that can be reached.
-use Rattle.std.specs.Prelude.{◌≡◌, ◌+◌, ◌≤◌, ◌^◌, ℕ, List, [], length, take, None, Some, All, slice_index_or}
+use Rattle.std.specs.Prelude.{◌≡◌, ◌+◌, ◌<◌, ◌≤◌, ◌^◌, ℕ, false, List, [], length, take, Some, All, slice_index_or}
 use Rattle.std.specs.FinMap as map
 use Rattle.r2_base.specs.declared.addr.Addr.{Addr}
 use Rattle.hc_replay.specs.declared.setup.Setup.{Setup}
@@ -8,17 +8,21 @@ use Rattle.hc_replay.specs.declared.member.Role.TheVariants.{Follower, Leader}
 use Rattle.r2_frag.specs.Sizes.{IsShort}
 use Rattle.hc_service.specs.Service.{Contents}
 use Rattle.hc_service.specs.State.{new_state}
-use Rattle.hc_replay.specs.Durable.{requests_of}
+use Rattle.hc_log.specs.Log.{stands_in, requests_of}
+use Rattle.hc_log.specs.Durable.{State, begun, IsValid}
+use Rattle.hc_pool.specs.declared.request.Request.{Request}
+use Rattle.hc_pool.specs.Pool.{IsPool}
+use Rattle.hc_replay.specs.Durable.{durable_of}
 use Rattle.hc_replay.specs.Operations.{IsReplayed}
 use Rattle.hc_replay.specs.Replies.{IsAnswer}
 
--- a member that has nothing yet
-unfoldable pub begin : Member
-begin =
+-- a member that begins with this durable state; all else is new
+unfoldable pub anew : State → Member
+anew d =
     record {
-      term = 0;
-      vote = None;
-      log = [];
+      term = d.term;
+      vote = d.vote;
+      log = d.log;
       role = Follower;
       commit = 0;
       applied = 0;
@@ -31,6 +35,14 @@ begin =
       kept = [];
       silent = 0;
     }
+
+-- a member that has nothing yet
+abbrev pub begin : Member
+begin = anew begun
+
+-- a member behind a restart: its term, its vote and its log stay, all else is new
+abbrev pub restarted : Member → Member
+restarted m = anew (durable_of m)
 
 -- the address of the replica itself
 abbrev pub own_address : Setup → Addr
@@ -54,3 +66,16 @@ pub record IsSound (s : Setup) (m : Member) : Type 0 where
   pub requests : requests_of m.log ≤ 1048576
   pub replies : All IsAnswer m.kept
   pub queued : m.role ≡ Leader → length m.queues ≡ length s.members
+
+-- what holds of the durable state, the pool and the queues of every member of a group of at most 7 that can be reached:
+-- each request of the pool may still be ordered, and a member with queues leads a term
+pub record AreOrderly (d : State) (requests : List Request) (queues : List (List ℕ)) : Type 0 where
+  pub valid : IsValid d
+  pub pool : IsPool requests
+  pub apart : All (λ r. stands_in r.rid d.log ≡ false) requests
+  pub few : length queues ≤ 7
+  pub leads : 0 < length queues → 1 ≤ d.term
+
+-- a member whose changes can be stored as records
+abbrev pub IsOrderly : Member → Type 0
+IsOrderly m = AreOrderly (durable_of m) m.pool m.queues

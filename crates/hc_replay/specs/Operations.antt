@@ -6,7 +6,7 @@ use Rattle.r2_base.specs.declared.entry.Kind.TheVariants.{Blank, Write, Read}
 use Rattle.hc_service.specs.Service.{Contents}
 use Rattle.hc_service.specs.State.{State}
 use Rattle.hc_service.specs.Replies.{Operation, after_all}
-use Rattle.hc_replay.specs.declared.record.Stored.{Stored}
+use Rattle.hc_log.specs.declared.stored.Stored.{Stored}
 
 -- an entry by its kind and the body of its request
 abbrev pub operation_of : Stored → Operation

@@ -6,8 +6,8 @@ use Rattle.hc_script.specs.declared.line.Line.{Line}
 use Rattle.hc_replay.specs.declared.setup.Setup.{Setup}
 use Rattle.hc_replay.specs.declared.member.Member.{Member}
 use Rattle.hc_status.specs.declared.status.Status.{Status}
-use Rattle.hc_status.specs.declared.status.Status.TheVariants.{Done, BadWords, BadScript, Memory, SourceFault, SinkFault, LinkFault, ClockFault, TimedOut, IdsUsed, TurnsSpent, NotBuilt}
-use Rattle.hc_replay.specs.Script.{IsText, AreLines, Refusal, Outside, Unbuilt, IsRefused, fed, after, turns_text}
+use Rattle.hc_status.specs.declared.status.Status.TheVariants.{Done, BadWords, BadScript, Memory, SourceFault, SinkFault, LinkFault, ClockFault, TimedOut, IdsUsed, TurnsSpent}
+use Rattle.hc_replay.specs.Script.{IsText, AreLines, IsOutside, fed, after, turns_text}
 
 -- the texts were run as lines: the member behind them, and what they printed
 pub record Ran (s : Setup) (m n : Member) (texts : List (List ℕ)) (old new : Option (List ℕ)) : Type 0 where
@@ -21,17 +21,16 @@ abbrev pub WritesFront : Setup → Member → List ℕ → Option (List ℕ) →
 WritesFront s m text old new =
     Keeps old new ⊎ ((lines : List Line) × AreLines (text ∷ []) lines × AppendsFront old new (turns_text s m lines))
 
--- the text with this number isn't run, and nothing was written
-pub record IsRefusedAs (why : Refusal) (text : List ℕ) (number line : ℕ) (old new : Option (List ℕ)) : Type 0 where
+-- the text with this number is no line, and nothing was written
+pub record IsRefused (text : List ℕ) (number line : ℕ) (old new : Option (List ℕ)) : Type 0 where
   pub counted : line ≡ number
   pub nonempty : text ≢ []
-  pub refused : IsRefused why text
+  pub refused : IsOutside text
   pub kept : Keeps old new
 
 -- why the text with this number wasn't run as a line
 abbrev pub StopsText : Setup → Member → List ℕ → ℕ → Option (List ℕ) → Option (List ℕ) → Status → Type 0
-StopsText s m text number old new (BadScript line) = IsRefusedAs Outside text number line old new
-StopsText s m text number old new (NotBuilt line) = IsRefusedAs Unbuilt text number line old new
+StopsText s m text number old new (BadScript line) = IsRefused text number line old new
 StopsText s m text number old new SinkFault = WritesFront s m text old new
 StopsText s m text number old new Memory = WritesFront s m text old new
 StopsText s m text number old new Done = ⊥
@@ -56,8 +55,8 @@ abbrev pub EndsInside : List ℕ → List ℕ → Type 0
 EndsInside line (b ∷ rest) = (b ≡ 10) ⊎ (8192 < length line)
 EndsInside line [] = 8192 < length line
 
--- behind some lines of a piece stands one that isn't run, the one with this number
-pub record Sticks (s : Setup) (why : Refusal) (m : Member) (before : List ℕ) (count line : ℕ) (old new : Option (List ℕ)) (piece : List ℕ) : Type 0 where
+-- behind some lines of a piece stands a text that is none, the one with this number
+pub record Sticks (s : Setup) (m : Member) (before : List ℕ) (count line : ℕ) (old new : Option (List ℕ)) (piece : List ℕ) : Type 0 where
   pub texts : List (List ℕ)
   pub lines : List Line
   pub bad : List ℕ
@@ -66,7 +65,7 @@ pub record Sticks (s : Setup) (why : Refusal) (m : Member) (before : List ℕ) (
   pub split : before ++ piece ≡ fed texts ++ bad ++ rest
   pub one_line : All (λ b. b ≢ 10) bad
   pub nonempty : bad ≢ []
-  pub refused : IsRefused why bad
+  pub refused : IsOutside bad
   pub ends : EndsInside bad rest
   pub number : line ≡ count + length texts + 1
   pub gave : Appends old new (turns_text s m lines)
@@ -82,8 +81,7 @@ pub record Breaks (s : Setup) (m : Member) (before : List ℕ) (old new : Option
 
 -- why a piece wasn't taken whole
 abbrev pub StopsPiece : Setup → Member → List ℕ → ℕ → Option (List ℕ) → Option (List ℕ) → List ℕ → Status → Type 0
-StopsPiece s m before count old new piece (BadScript line) = Sticks s Outside m before count line old new piece
-StopsPiece s m before count old new piece (NotBuilt line) = Sticks s Unbuilt m before count line old new piece
+StopsPiece s m before count old new piece (BadScript line) = Sticks s m before count line old new piece
 StopsPiece s m before count old new piece SinkFault = Breaks s m before old new piece
 StopsPiece s m before count old new piece Memory = Breaks s m before old new piece
 StopsPiece s m before count old new piece Done = ⊥

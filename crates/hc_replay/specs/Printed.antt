@@ -3,8 +3,8 @@ use Rattle.std.specs.Prelude.{ℕ, List, [], ◌++◌, Option, Some, None}
 use Rattle.std.specs.List.{flat_map}
 use Rattle.r2_base.specs.declared.datagram.Datagram.{Datagram}
 use Rattle.hc_script.specs.Printed.{rec_text, out_text}
-use Rattle.hc_replay.specs.declared.record.Record.{Record}
-use Rattle.hc_replay.specs.Durable.{record_bytes}
+use Rattle.hc_log.specs.declared.record.Record.{Record}
+use Rattle.hc_journal.specs.Record.{record_bytes}
 
 -- the line of a record, where there is one
 abbrev pub stored_text : Option Record → List ℕ

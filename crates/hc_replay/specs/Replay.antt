@@ -5,9 +5,9 @@ use Rattle.r2_link.specs.Streams.{AppendsFront}
 use Rattle.hc_script.specs.declared.line.Line.{Line}
 use Rattle.hc_replay.specs.declared.setup.Setup.{Setup}
 use Rattle.hc_status.specs.declared.status.Status.{Status}
-use Rattle.hc_status.specs.declared.status.Status.TheVariants.{Done, BadWords, BadScript, Memory, SourceFault, SinkFault, LinkFault, ClockFault, TimedOut, IdsUsed, TurnsSpent, NotBuilt}
+use Rattle.hc_status.specs.declared.status.Status.TheVariants.{Done, BadWords, BadScript, Memory, SourceFault, SinkFault, LinkFault, ClockFault, TimedOut, IdsUsed, TurnsSpent}
 use Rattle.hc_replay.specs.Member.{begin}
-use Rattle.hc_replay.specs.Script.{IsText, AreLines, Refusal, Outside, Unbuilt, IsRefused, fed, turns_text, script_text}
+use Rattle.hc_replay.specs.Script.{IsText, AreLines, IsOutside, fed, turns_text, script_text}
 
 -- a group of one member, without an aggregator
 pub record IsAlone (s : Setup) : Type 0 where
@@ -40,8 +40,8 @@ abbrev pub IsLineEnd : Option (List ℕ) → List ℕ → List ℕ → Type 0
 IsLineEnd left line (b ∷ rest) = (b ≡ 10) ⊎ (8192 < length line)
 IsLineEnd left line [] = IsAtEnd left ⊎ (8192 < length line)
 
--- behind these lines stands one that isn't run, the one with this number
-pub record IsStuck (why : Refusal) (left : Option (List ℕ)) (taken : List ℕ) (lines : List Line) (number : ℕ) : Type 0 where
+-- behind these lines stands a text that is none, the one with this number
+pub record IsStuck (left : Option (List ℕ)) (taken : List ℕ) (lines : List Line) (number : ℕ) : Type 0 where
   pub texts : List (List ℕ)
   pub bad : List ℕ
   pub rest : List ℕ
@@ -49,7 +49,7 @@ pub record IsStuck (why : Refusal) (left : Option (List ℕ)) (taken : List ℕ)
   pub split : taken ≡ fed texts ++ bad ++ rest
   pub one_line : All (λ b. b ≢ 10) bad
   pub nonempty : bad ≢ []
-  pub refused : IsRefused why bad
+  pub refused : IsOutside bad
   pub ends : IsLineEnd left bad rest
   pub counted : number ≡ length texts + 1
 
@@ -70,9 +70,7 @@ WritesPart s left taken old new =
 abbrev pub Replays : Setup → Option (List ℕ) → List ℕ → Option (List ℕ) → Option (List ℕ) → Status → Type 0
 Replays s left taken old new Done = (lines : List Line) × IsWhole left taken lines × Appends old new (script_text s lines)
 Replays s left taken old new (BadScript number) =
-    (lines : List Line) × IsStuck Outside left taken lines number × Appends old new (turns_text s begin lines)
-Replays s left taken old new (NotBuilt number) =
-    (lines : List Line) × IsStuck Unbuilt left taken lines number × Appends old new (turns_text s begin lines)
+    (lines : List Line) × IsStuck left taken lines number × Appends old new (turns_text s begin lines)
 Replays s left taken old new SourceFault = (lines : List Line) × IsPartial taken lines × Appends old new (turns_text s begin lines)
 Replays s left taken old new TurnsSpent =
     (lines : List Line) × IsPartial taken lines × Appends old new (turns_text s begin lines) × (length taken ≡ 2 ^ 56)
@@ -95,7 +93,6 @@ abbrev pub IsComplete : Status → Type 0
 IsComplete Done = Unit {0}
 IsComplete Memory = Unit {0}
 IsComplete TurnsSpent = Unit {0}
-IsComplete (NotBuilt number) = Unit {0}
 IsComplete (BadScript number) = ⊥
 IsComplete BadWords = ⊥
 IsComplete SourceFault = ⊥

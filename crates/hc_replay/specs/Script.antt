@@ -7,7 +7,7 @@ use Rattle.hc_script.specs.declared.line.Line.{Line}
 use Rattle.hc_script.specs.declared.line.Line.TheVariants.{Tick, Quiet, In, Restart}
 use Rattle.hc_replay.specs.declared.setup.Setup.{Setup}
 use Rattle.hc_replay.specs.declared.member.Member.{Member}
-use Rattle.hc_replay.specs.Member.{begin, own_address}
+use Rattle.hc_replay.specs.Member.{begin, restarted, own_address}
 use Rattle.hc_replay.specs.Turn.{finished, Reacted, turned}
 use Rattle.hc_replay.specs.Printed.{turn_text}
 use Rattle.hc_script.specs.Line.{IsLine}
@@ -28,19 +28,19 @@ Say ([] ∷ texts) lines = Say texts lines
 Say ((b ∷ text) ∷ texts) [] = ⊥
 Say ((b ∷ text) ∷ texts) (line ∷ lines) = IsLine (b ∷ text) line × Say texts lines
 
--- the event of a line, where it has one; a datagram comes to the replica's own address
+-- the event of a line; a restart has none; a datagram comes to the replica's own address
 abbrev pub event_of : Setup → Line → Option Event
 event_of s Tick = Some TickEvent
 event_of s Quiet = Some QuietEvent
 event_of s (In from bytes) = Some (DatagramEvent (record { from = from; to = own_address s; bytes = bytes }))
 event_of s Restart = None
 
--- the turn that an event makes; a line without an event isn't run yet, and makes none
+-- what an event makes of a member is a turn; a restart makes it anew, and stores and sends nothing
 abbrev pub turn_at : Setup → Member → Option Event → Reacted
 turn_at s m (Some event) = turned s m event
-turn_at s m None = record { member = m; stored = None; sends = [] }
+turn_at s m None = record { member = restarted m; stored = None; sends = [] }
 
--- the turn that a line makes
+-- what a line makes of a member
 unfoldable pub line_turn : Setup → Member → Line → Reacted
 line_turn s m line = turn_at s m (event_of s line)
 
@@ -73,36 +73,11 @@ last_text s m = closing_text s (m.commit - m.applied) m
 unfoldable pub script_text : Setup → List Line → List ℕ
 script_text s lines = turns_text s begin lines ++ last_text s (after s begin lines)
 
--- a line that can be run: a restart can't be yet
-abbrev pub IsBuilt : Line → Type 0
-IsBuilt Tick = Unit {0}
-IsBuilt Quiet = Unit {0}
-IsBuilt (In from bytes) = Unit {0}
-IsBuilt Restart = ⊥
-
--- the texts are lines that can be run, and say these
+-- the texts are lines, and say these
 pub record AreLines (texts : List (List ℕ)) (lines : List Line) : Type 0 where
   pub each : All IsText texts
   pub said : Say texts lines
-  pub built : All IsBuilt lines
 
 -- the text is no line of a script
 abbrev pub IsOutside : List ℕ → Type 0
 IsOutside text = (line : Line) → IsText text → IsLine text line → ⊥
-
--- the text is a line that can't be run yet
-pub record IsUnbuilt (text : List ℕ) : Type 0 where
-  pub line : Line
-  pub short : IsText text
-  pub said : IsLine text line
-  pub unbuilt : IsBuilt line → ⊥
-
--- why a text isn't run: it is no line, or one that can't be run yet
-pub data Refusal : Type 0 where
-  Outside : Refusal
-  Unbuilt : Refusal
-
--- the text isn't run, for this reason
-abbrev pub IsRefused : Refusal → List ℕ → Type 0
-IsRefused Outside text = IsOutside text
-IsRefused Unbuilt text = IsUnbuilt text

@@ -4,9 +4,9 @@ use Rattle.r2_base.specs.declared.datagram.Datagram.{Datagram}
 use Rattle.r2_base.specs.declared.event.Event.{Event}
 use Rattle.r2_base.specs.declared.entry.Kind.{Kind}
 use Rattle.r2_base.specs.declared.entry.Kind.TheVariants.{Blank, Write, Read}
-use Rattle.hc_replay.specs.declared.record.Stored.{Stored}
-use Rattle.hc_replay.specs.declared.record.Record.{Record}
-use Rattle.hc_replay.specs.declared.request.Request.{Request}
+use Rattle.hc_log.specs.declared.stored.Stored.{Stored}
+use Rattle.hc_log.specs.declared.record.Record.{Record}
+use Rattle.hc_pool.specs.declared.request.Request.{Request}
 use Rattle.hc_replay.specs.declared.setup.Setup.{Setup}
 use Rattle.hc_replay.specs.declared.member.Member.{Member}
 use Rattle.hc_replay.specs.declared.member.Role.{Role}
@@ -14,8 +14,9 @@ use Rattle.hc_replay.specs.declared.member.Role.TheVariants.{Candidate, Leader}
 use Rattle.hc_service.specs.Service.{Served, serve}
 use Rattle.hc_service.specs.State.{State, after_write, after_admission}
 use Rattle.hc_service.specs.Replies.{payload_of}
-use Rattle.hc_replay.specs.Durable.{blank_of, has_room, stands_in, same_vote}
-use Rattle.hc_replay.specs.Pool.{waits_in}
+use Rattle.hc_log.specs.Log.{blank_of, has_room, stands_in}
+use Rattle.hc_replay.specs.Durable.{same_vote}
+use Rattle.hc_pool.specs.Pool.{waits_in}
 use Rattle.hc_replay.specs.Queues.{new_queues, choose, assign, report}
 use Rattle.hc_replay.specs.Member.{own_address}
 use Rattle.r2_frag.specs.declared.kept.KeptReply.{KeptReply}

@@ -1,4 +1,4 @@
-use crate::request::Request;
+use hc_pool::Request;
 
 /// What an event says to a replica.
 #[derive(Debug, Drop)]

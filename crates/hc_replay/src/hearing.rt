@@ -5,7 +5,7 @@ ghost use Rattle.r2_header.specs.Reading.{header_at};
 ghost use Rattle.hc_replay.specs.Heard.{kind_under, request_said, hear_request, hear_class, hear_packet, hear_read, hear};
 
 use crate::heard::Heard;
-use crate::request::Request;
+use hc_pool::Request;
 use r2_base::{Datagram, Event, Kind, NoMemory, Rid};
 use r2_frag::{Added, Assembly, Class, Key, key_of};
 use r2_header::{Header, read};

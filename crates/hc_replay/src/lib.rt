@@ -4,20 +4,16 @@
 mod heard;
 mod hearing;
 pub mod laws;
-mod log;
 mod log_steps;
 mod member;
 mod playback;
-mod pool;
 mod print;
 mod queues;
-mod record;
+mod recording;
 mod replaying;
 mod replies;
-mod request;
 mod running;
 mod setup;
-mod spelling;
 mod turn;
 mod turns;
 

@@ -1,41 +1,22 @@
-//! What a log does with its fields.
-ghost use Rattle.std.specs.Prelude.{◌≡◌, ◌+◌, ◌-◌, ◌^◌, ◌≤◌, ◌++◌, ◌∷◌, [], ◌&&◌, length, min, IfOk, OnOk, OnErr};
-ghost use Rattle.hc_replay.specs.Durable.{stands_in, is_request, same_rid, requests_of, body_bytes_of};
+//! What a member reads of its log, and takes out of its pool.
+ghost use Rattle.std.specs.Prelude.{◌≡◌, ◌<◌, ◌≤◌, ◌∷◌, [], length, drop, slice_get, slice_index_or, Some, option_map, MatchOption, IfOk};
+ghost use Rattle.hc_log.specs.declared.stored.Stored.{Stored};
 
-use crate::record::Stored;
-use r2_base::{Duplicate, Kind, NoMemory, Rid};
+use hc_log::{Entries, Log, Stored};
+use hc_pool::{Pool, Request};
+use r2_base::{Bytes, Duplicate, Listed, NoMemory};
 use std::alloc::Global;
 
-fn is_request(kind: Kind) -> bool
-    ensures { result ≡ is_request kind }
+/// The entry behind so many others.
+pub(crate) fn entry_behind(log: &Log, before: u64) -> &Stored
+    requires { before < length log.now }
+    ensures there { slice_get log.now before ≡ Some result.now }
+    ensures read { (d : Stored) → slice_index_or log.now before d ≡ result.now }
 {
-    match kind {
-        Kind::Blank => false,
-        Kind::Write | Kind::Read => true,
-    }
+    &log.as_slice()[before as usize]
 }
 
-pub(crate) fn same_rid(a: &Rid, b: &Rid) -> bool
-    ensures { result ≡ same_rid a.now b.now }
-{
-    a.id == b.id && a.client.ip == b.client.ip && a.client.port == b.client.port
-}
-
-fn asks_as(stored: &Stored, rid: &Rid) -> bool
-    ensures { result ≡ (is_request stored.now.entry.kind && same_rid rid.now stored.now.entry.rid) }
-{
-    is_request(stored.entry.kind) && same_rid(rid, &stored.entry.rid)
-}
-
-/// Whether a request with this id is among the entries.
-#[tactic(auto, unfolding(crate::specs::Durable::stands_in))]
-pub(crate) fn any_asks_as(entries: &[Stored], rid: &Rid) -> bool
-    ensures { result ≡ stands_in rid.now entries.now }
-{
-    entries.iter().any(|stored| asks_as(stored, rid))
-}
-
-pub(crate) fn copies(entries: &[Stored], alloc: Global) -> Result<Vec<Stored>, NoMemory>
+fn copies(alloc: Global, entries: &[Stored]) -> Result<Vec<Stored>, NoMemory>
     ensures { IfOk result (λ v. v.items ≡ entries.now) }
 {
     let mut items = Vec::with_capacity(alloc, entries.len())?;
@@ -45,27 +26,47 @@ pub(crate) fn copies(entries: &[Stored], alloc: Global) -> Result<Vec<Stored>, N
     Ok(items)
 }
 
-/// Appends an entry and counts it; both counts stand still at their type's end.
-#[tactic(auto, using(crate::proofs::Counts::requests_of_more, crate::proofs::Counts::body_bytes_of_more))]
-pub(crate) fn push_counted(
-    entries: &mut Vec<Stored>,
-    requests: &mut u64,
-    body_bytes: &mut u64,
-    stored: Stored,
-) -> Result<(), NoMemory>
-    requires requests { requests.old ≡ min (requests_of entries.old.items) (2 ^ 64 - 1) }
-    requires body_bytes { body_bytes.old ≡ min (body_bytes_of entries.old.items) (2 ^ 64 - 1) }
-    ensures appended { OnOk result (entries.new.items ≡ entries.old.items ++ stored ∷ []) }
-    ensures unchanged { OnErr result (entries.new.items ≡ entries.old.items) }
-    ensures requests { requests.new ≡ min (requests_of entries.new.items) (2 ^ 64 - 1) }
-    ensures body_bytes { body_bytes.new ≡ min (body_bytes_of entries.new.items) (2 ^ 64 - 1) }
+/// Copies of the entries behind the first `keep`.
+pub(crate) fn entries_behind(alloc: Global, log: &Log, keep: u64) -> Result<Entries, NoMemory>
+    requires { keep ≤ length log.now }
+    ensures { IfOk result (λ es. es ≡ drop keep log.now) }
 {
-    let asks = is_request(stored.entry.kind);
-    let bytes = stored.body.as_slice().len() as u64;
-    entries.push(stored)?;
-    if asks {
-        *requests = requests.saturating_add(1);
+    let entries = log.as_slice();
+    Ok(Listed::from_vec(copies(alloc, &entries[keep as usize..])?))
+}
+
+/// The body of the request that was put first into a pool.
+pub(crate) fn oldest_body(pool: &Pool) -> Option<&Bytes>
+    ensures { MatchOption result (pool.now ≡ []) (λ body. option_map (λ r. r.body) (slice_get pool.now 0) ≡ Some body.now) }
+{
+    let Some(rid) = pool.oldest() else {
+        return None;
+    };
+    match pool.get(&rid) {
+        Some((_, body)) => Some(body),
+        None => None,
     }
-    *body_bytes = body_bytes.saturating_add(bytes);
-    Ok(())
+}
+
+/// Takes out the request that was put first into a pool.
+pub(crate) fn take_oldest(pool: &mut Pool) -> Option<Request>
+    ensures { MatchOption result ((pool.old ≡ []) × (pool.new ≡ [])) (λ r. pool.old ≡ r ∷ pool.new) }
+{
+    if pool.len() == 0 {
+        return None;
+    }
+    let Some(rid) = pool.oldest() else {
+        return None;
+    };
+    match pool.take(&rid) {
+        Some((kind, body)) => Some(Request { rid, kind, body }),
+        None => None,
+    }
+}
+
+/// Lets the request go that was put first into a pool.
+pub(crate) fn drop_oldest(pool: &mut Pool)
+    ensures { pool.new ≡ drop 1 pool.old }
+{
+    let _oldest = take_oldest(pool);
 }

@@ -1,18 +1,18 @@
 ghost use Rattle.hc_service.specs.Replies.{payload_of};
-ghost use Rattle.hc_replay.specs.Durable.{blank_of, requests_of, same_vote};
+ghost use Rattle.hc_log.specs.Log.{blank_of, requests_of, MayFollow};
+ghost use Rattle.hc_replay.specs.Durable.{same_vote};
 ghost use Rattle.hc_replay.specs.Turn.{entry_of};
 ghost use Rattle.std.specs.Prelude.{◌≡◌, ◌^◌, ℕ, ◌+◌, ◌-◌, ◌<◌, ◌≤◌, ◌++◌, true, false, All, length, take, slice_get, Some, IfOk, OnOk, MatchOption};
 
 use crate::heard::Heard;
 use crate::hearing::hear;
-use crate::log::Log;
-use crate::pool::Pool;
+use crate::log_steps::{drop_oldest, entries_behind, entry_behind, oldest_body, take_oldest};
 use crate::queues::Queues;
-use crate::record::{Record, Stored};
 use crate::replies::{payload_of, policy_of, reply_parts};
-use crate::request::Request;
 use crate::setup::Setup;
 use crate::turn::Turn;
+use hc_log::{Durable, Log, Record, Stored};
+use hc_pool::{Pool, PutFault, Request};
 use hc_service::{Kv, Reply, Service};
 use r2_base::{Addr, Bytes, Datagram, Datagrams, Entry, Event, Kind, Listed, NoMemory, Rid};
 use r2_frag::{Assembly, Kept};
@@ -71,7 +71,8 @@ pub struct Member {
 }
 
 impl Member {
-    ghost use Rattle.hc_replay.specs.Member.{begin, own_address, AreShort, IsSound};
+    ghost use Rattle.hc_pool.specs.Pool.{MayWait};
+    ghost use Rattle.hc_replay.specs.Member.{anew, begin, own_address, AreShort, IsSound, IsOrderly};
     ghost use Rattle.hc_replay.specs.Operations.{IsReplayed};
     ghost use Rattle.hc_replay.specs.Replay.{IsAlone};
     ghost use Rattle.hc_replay.specs.Turn.{batched, due, applied_one, applied_all, batch_of, reported, finished, pooled, resent, request_row, waited, is_impatient, stood, won, ticked, row, order_next, ordered, ordering, counting, settled, stored_of, hearing, reacted_to};
@@ -79,15 +80,16 @@ impl Member {
     ghost use Rattle.hc_replay.specs.Replies.{reply_parts, IsAnswer};
     ghost use Rattle.r2_frag.specs.Kept.{kept_with, newest};
 
-    /// A member that has nothing yet.
-    #[tactic(auto, unfolding(crate::specs::Member::begin))]
-    pub(crate) fn begin(alloc: Global) -> Result<Member, NoMemory>
-        ensures { IfOk result (λ m. m ≡ begin) }
+    /// A member that begins with this durable state; all else is new.
+    #[tactic(auto, unfolding(crate::specs::Member::anew))]
+    pub(crate) fn anew(alloc: Global, durable: Durable) -> Result<Member, NoMemory>
+        ensures { IfOk result (λ m. m ≡ anew durable.state) }
     {
+        let (term, vote, log) = durable.into_parts();
         Ok(Member {
-            term: 0,
-            vote: None,
-            log: Log::new(alloc),
+            term,
+            vote,
+            log,
             role: Role::Follower,
             commit: 0,
             applied: 0,
@@ -100,6 +102,13 @@ impl Member {
             kept: Kept::new(alloc)?,
             silent: 0,
         })
+    }
+
+    /// A member that has nothing yet.
+    pub(crate) fn begin(alloc: Global) -> Result<Member, NoMemory>
+        ensures { IfOk result (λ m. m ≡ begin) }
+    {
+        Member::anew(alloc, Durable::begin(alloc))
     }
 
     #[tactic(auto, unfolding(crate::specs::Turn::batched))]
@@ -164,7 +173,7 @@ impl Member {
             → sends.new.items ≡ sends.old.items ++ (applied_one setup.now self.old stored).sends) }
     {
         let index = self.applied + 1;
-        let stored = self.log.entry(index);
+        let stored = entry_behind(&self.log, self.applied);
         let entry = stored.entry;
         let answers = entry.replier == setup.me;
         match entry.kind {
@@ -237,15 +246,18 @@ impl Member {
     /// Puts a new request into the pool, unless it waits there already or the pool is full.
     #[tactic(auto, unfolding(crate::specs::Turn::pooled))]
     fn pool_request(&mut self, request: Request) -> Result<(), NoMemory>
+        requires { MayWait request }
         ensures { OnOk result (self.new ≡ pooled self.old request) }
     {
-        if self.pool.contains(&request.rid) {
+        if self.pool.get(&request.rid).is_some() {
             return Ok(());
         }
-        if self.pool.len() >= POOL_LIMIT {
-            return Ok(());
+        let Request { rid, kind, body } = request;
+        match self.pool.put(rid, kind, body) {
+            Ok(()) => Ok(()),
+            Err(PutFault::Full) => Ok(()),
+            Err(PutFault::Memory) => Err(NoMemory),
         }
-        self.pool.put(request)
     }
 
     /// Waits one tick more.
@@ -255,7 +267,7 @@ impl Member {
     {
         self.silent = self.silent.saturating_add(1).min(SILENCE_LIMIT);
         if self.pool.len() >= POOL_LIMIT {
-            self.pool.drop_oldest();
+            drop_oldest(&mut self.pool);
         }
     }
 
@@ -293,6 +305,7 @@ impl Member {
     fn win(&mut self, alloc: Global, setup: &Setup) -> Result<(), NoMemory>
         requires alone { IsAlone setup.now }
         requires fits { length self.old.log < 2 ^ 62 }
+        requires follows { MayFollow self.old.log (blank_of self.old.term) }
         ensures { OnOk result (self.new ≡ won setup.now self.old) }
     {
         let start = self.log.last() + 1;
@@ -307,6 +320,7 @@ impl Member {
     #[tactic(auto, unfolding(crate::specs::Turn::ticked))]
     fn tick(&mut self, alloc: Global, setup: &Setup) -> Result<(), NoMemory>
         requires alone { IsAlone setup.now }
+        requires orderly { IsOrderly self.old }
         ensures { OnOk result (self.new ≡ ticked setup.now self.old) }
     {
         self.wait();
@@ -340,10 +354,11 @@ impl Member {
     ) -> Result<Datagrams, NoMemory>
         requires alone { IsAlone setup.now }
         requires replies { All IsAnswer self.old.kept }
+        requires may_wait { MayWait request }
         ensures state { OnOk result (self.new ≡ (request_row setup.now self.old request).member) }
         ensures sends { IfOk result (λ sends. sends ≡ (request_row setup.now self.old request).sends) }
     {
-        if self.log.contains(&request.rid) {
+        if self.log.place_of(&request.rid).is_some() {
             return self.resend(alloc, setup, &request);
         }
         self.pool_request(request)?;
@@ -355,6 +370,8 @@ impl Member {
     fn row(&mut self, alloc: Global, setup: &Setup, said: Heard) -> Result<Datagrams, NoMemory>
         requires alone { IsAlone setup.now }
         requires replies { All IsAnswer self.old.kept }
+        requires orderly { IsOrderly self.old }
+        requires short { IsShortHeard said }
         ensures state { OnOk result (self.new ≡ (row setup.now self.old said).member) }
         ensures sends { IfOk result (λ sends. sends ≡ (row setup.now self.old said).sends) }
     {
@@ -373,20 +390,20 @@ impl Member {
     /// Orders the oldest request of the pool, where it may be ordered, and says whether it was.
     #[tactic(auto, unfolding(crate::specs::Turn::order_next))]
     fn order_next(&mut self, bound: u16) -> Result<bool, NoMemory>
-        requires { length self.old.log ≤ 2 ^ 62 }
+        requires { IsOrderly self.old }
         ensures { IfOk result (λ more. MatchOption (order_next bound self.old)
             ((more ≡ false) × (self.new ≡ self.old)) (λ next. (more ≡ true) × (self.new ≡ next))) }
     {
         let Some(replier) = self.queues.choose(bound) else {
             return Ok(false);
         };
-        let Some(oldest) = self.pool.oldest() else {
+        let Some(body) = oldest_body(&self.pool) else {
             return Ok(false);
         };
-        if !self.log.has_room(oldest.body.as_slice()) {
+        if !self.log.has_room(body.as_slice()) {
             return Ok(false);
         }
-        let Some(request) = self.pool.take_oldest() else {
+        let Some(request) = take_oldest(&mut self.pool) else {
             return Ok(false);
         };
         let index = self.log.last() + 1;
@@ -397,7 +414,7 @@ impl Member {
 
     /// Orders requests, the oldest first, at most `room`.
     fn order_up_to(&mut self, bound: u16, room: u64) -> Result<(), NoMemory>
-        requires { length self.old.log ≤ 2 ^ 62 }
+        requires { IsOrderly self.old }
         ensures { OnOk result (self.new ≡ ordered bound room self.old) }
     {
         'orders: for done in 0..room {
@@ -410,7 +427,7 @@ impl Member {
 
     /// What a leader does behind each row: it orders what waits in the pool.
     fn order(&mut self, setup: &Setup, keep: u64) -> Result<(), NoMemory>
-        requires { length self.old.log ≤ 2 ^ 62 }
+        requires { IsOrderly self.old }
         ensures { OnOk result (self.new ≡ ordering setup.now keep self.old self.old.role) }
     {
         if self.role != Role::Leader {
@@ -438,7 +455,7 @@ impl Member {
     /// Orders, counts, and sets aside what is to be applied in the next turn.
     #[tactic(auto, unfolding(crate::specs::Turn::settled))]
     fn settle(&mut self, setup: &Setup, keep: u64) -> Result<(), NoMemory>
-        requires { length self.old.log ≤ 2 ^ 62 }
+        requires { IsOrderly self.old }
         ensures { OnOk result (self.new ≡ settled setup.now keep self.old) }
     {
         self.order(setup, keep)?;
@@ -473,7 +490,7 @@ impl Member {
             term: self.term,
             vote: self.vote,
             keep,
-            entries: self.log.from(keep, alloc)?,
+            entries: entries_behind(alloc, &self.log, keep)?,
         }))
     }
 
@@ -496,6 +513,7 @@ impl Member {
     ) -> Result<Turn, NoMemory>
         requires alone { IsAlone setup.now }
         requires sound { IsSound setup.now self.old }
+        requires orderly { IsOrderly self.old }
         requires short { IsShortHeard said }
         ensures state { OnOk result (self.new ≡ (reacted_to setup.now self.old said).member) }
         ensures stored { IfOk result (λ turn. turn.stored ≡ (reacted_to setup.now self.old said).stored) }

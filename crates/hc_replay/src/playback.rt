@@ -1,5 +1,5 @@
 ghost use Rattle.std.specs.Prelude.{◌≡◌, ◌≤◌, ◌<◌, ◌+◌, ◌^◌, [], ◌∷◌, ◌++◌, length, IfErr, OnOk};
-ghost use Rattle.hc_replay.specs.Member.{IsSound};
+ghost use Rattle.hc_replay.specs.Records.{IsRecorded};
 ghost use Rattle.hc_replay.specs.Replay.{IsAlone};
 ghost use Rattle.hc_replay.specs.Script.{IsText};
 
@@ -7,6 +7,7 @@ use crate::member::Member;
 use crate::running::run_text;
 use crate::setup::Setup;
 use crate::turns::close;
+use hc_journal::Records;
 use hc_status::Status;
 use r2_link::Sink;
 use std::alloc::Global;
@@ -22,6 +23,8 @@ const LINE_LIMIT: usize = 8_192;
 pub(crate) struct Playback {
     pub(crate) setup: Setup,
     pub(crate) member: Member,
+    /// The records of the turns so far.
+    pub(crate) records: Records,
     /// The bytes of the line that isn't whole yet.
     pub(crate) partial: Vec<u8>,
     /// How many lines were run.
@@ -36,13 +39,13 @@ impl Playback {
     /// Runs the line that is whole now.
     fn end_line<K: Sink>(&mut self, alloc: Global, sink: &mut K) -> Result<(), Status>
         requires alone { IsAlone self.old.setup }
-        requires sound { IsSound self.old.setup self.old.member }
+        requires recorded { IsRecorded self.old.setup self.old.member self.old.records }
         requires text { IsText self.old.partial.items }
         requires few { self.old.lines < 2 ^ 60 }
 
         ensures advanced { OnOk result (Advanced self.old.setup self.old.member self.new.member self.old.partial.items self.new.partial.items
             self.old.lines self.new.lines (K.written sink.old) (K.written sink.new) (10 ∷ [])) }
-        ensures stays_sound { OnOk result (IsSound self.new.setup self.new.member) }
+        ensures stays_recorded { OnOk result (IsRecorded self.new.setup self.new.member self.new.records) }
         ensures stops { IfErr result (StopsPiece self.old.setup self.old.member self.old.partial.items self.old.lines (K.written sink.old) (K.written sink.new) (10 ∷ [])) }
         ensures counted { OnOk result (self.new.lines ≡ self.old.lines + 1) }
 
@@ -55,6 +58,7 @@ impl Playback {
             alloc,
             &self.setup,
             &mut self.member,
+            &mut self.records,
             &self.partial,
             number,
             sink,
@@ -69,13 +73,13 @@ impl Playback {
     /// Takes one byte of the script.
     fn take_byte<K: Sink>(&mut self, alloc: Global, byte: u8, sink: &mut K) -> Result<(), Status>
         requires alone { IsAlone self.old.setup }
-        requires sound { IsSound self.old.setup self.old.member }
+        requires recorded { IsRecorded self.old.setup self.old.member self.old.records }
         requires text { IsText self.old.partial.items }
         requires few { self.old.lines < 2 ^ 60 }
 
         ensures advanced { OnOk result (Advanced self.old.setup self.old.member self.new.member self.old.partial.items self.new.partial.items
             self.old.lines self.new.lines (K.written sink.old) (K.written sink.new) (byte ∷ [])) }
-        ensures stays_sound { OnOk result (IsSound self.new.setup self.new.member) }
+        ensures stays_recorded { OnOk result (IsRecorded self.new.setup self.new.member self.new.records) }
         ensures stops { IfErr result (StopsPiece self.old.setup self.old.member self.old.partial.items self.old.lines (K.written sink.old) (K.written sink.new) (byte ∷ [])) }
         ensures counted { OnOk result (self.new.lines ≤ self.old.lines + 1) }
 
@@ -105,13 +109,13 @@ impl Playback {
         sink: &mut K,
     ) -> Result<(), Status>
         requires alone { IsAlone self.old.setup }
-        requires sound { IsSound self.old.setup self.old.member }
+        requires recorded { IsRecorded self.old.setup self.old.member self.old.records }
         requires text { IsText self.old.partial.items }
         requires few { self.old.lines + length piece.now ≤ 2 ^ 60 }
 
         ensures advanced { OnOk result (Advanced self.old.setup self.old.member self.new.member self.old.partial.items self.new.partial.items
             self.old.lines self.new.lines (K.written sink.old) (K.written sink.new) piece.now) }
-        ensures stays_sound { OnOk result (IsSound self.new.setup self.new.member) }
+        ensures stays_recorded { OnOk result (IsRecorded self.new.setup self.new.member self.new.records) }
         ensures stops { IfErr result (StopsPiece self.old.setup self.old.member self.old.partial.items self.old.lines (K.written sink.old) (K.written sink.new) piece.now) }
         ensures counted { OnOk result (self.new.lines ≤ self.old.lines + length piece.now) }
 
@@ -130,7 +134,7 @@ impl Playback {
     /// Runs what stands behind the last line end, and prints what is still to be applied.
     pub(crate) fn end<K: Sink>(&mut self, alloc: Global, sink: &mut K) -> Result<(), Status>
         requires alone { IsAlone self.old.setup }
-        requires sound { IsSound self.old.setup self.old.member }
+        requires recorded { IsRecorded self.old.setup self.old.member self.old.records }
         requires text { IsText self.old.partial.items }
         requires few { self.old.lines < 2 ^ 60 }
 
@@ -145,6 +149,7 @@ impl Playback {
             alloc,
             &self.setup,
             &mut self.member,
+            &mut self.records,
             &self.partial,
             number,
             sink,

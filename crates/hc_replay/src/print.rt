@@ -2,13 +2,13 @@ ghost use Rattle.std.specs.Prelude.{◌≡◌, ◌≤◌, IfOk, IfErr, IfSome, O
 ghost use Rattle.std.specs.Io.KnownBytes.{Appends};
 ghost use Rattle.std.specs.List.{flat_map};
 ghost use Rattle.r2_link.specs.Streams.{AppendsFront};
-ghost use Rattle.hc_replay.specs.Durable.{FitsFields};
+ghost use Rattle.hc_log.specs.Ranges.{IsInRange};
 ghost use Rattle.hc_replay.specs.Printed.{stored_text, turn_text};
 ghost use Rattle.hc_script.specs.Printed.{out_text};
 ghost use Rattle.hc_status.specs.Stops.{StopsBySink};
 
-use crate::record::Record;
-use crate::spelling::record_bytes;
+use hc_journal::record_bytes;
+use hc_log::Record;
 use hc_script::{out_text, rec_text};
 use hc_status::Status;
 use r2_base::Datagram;
@@ -22,7 +22,7 @@ pub(crate) fn print_turn<K: Sink>(
     stored: &Option<Record>,
     sends: &[Datagram],
 ) -> Result<(), Status>
-    requires { IfSome stored.now FitsFields }
+    requires { IfSome stored.now IsInRange }
     ensures whole { OnOk result (Appends (K.written sink.old) (K.written sink.new) (turn_text stored.now sends.now)) }
     ensures front { AppendsFront (K.written sink.old) (K.written sink.new) (turn_text stored.now sends.now) }
     ensures stops { IfErr result (λ status. StopsBySink (K.faults sink.old) (K.faults sink.new) status) }
@@ -35,7 +35,7 @@ pub(crate) fn print_turn<K: Sink>(
 }
 
 fn print_stored<K: Sink>(alloc: Global, sink: &mut K, stored: &Option<Record>) -> Result<(), Status>
-    requires { IfSome stored.now FitsFields }
+    requires { IfSome stored.now IsInRange }
     ensures whole { OnOk result (Appends (K.written sink.old) (K.written sink.new) (stored_text stored.now)) }
     ensures front { AppendsFront (K.written sink.old) (K.written sink.new) (stored_text stored.now) }
     ensures stops { IfErr result (λ status. StopsBySink (K.faults sink.old) (K.faults sink.new) status) }

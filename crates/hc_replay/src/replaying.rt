@@ -8,6 +8,7 @@ ghost use Rattle.hc_status.specs.declared.status.Status.TheVariants.{SourceFault
 use crate::member::Member;
 use crate::playback::Playback;
 use crate::setup::Setup;
+use hc_journal::Records;
 use hc_status::Status;
 use r2_base::Failed;
 use r2_link::{Sink, Source};
@@ -56,6 +57,7 @@ fn run_pieces<S: Source, K: Sink>(
     let mut playback = Playback {
         setup,
         member,
+        records: Records::new(alloc),
         partial: Vec::new(alloc),
         lines: 0,
     };
@@ -93,8 +95,8 @@ pub fn replay<S: Source, K: Sink>(
 
     ensures ran { IsReplay setup (S.left source.old) (S.left source.new) (K.written sink.old) (K.written sink.new) result }
 
-    // A script in its grammar, where neither the source nor the sink failed, is run to its end, or ends at a line that
-    // isn't built, at 2^56 bytes, or for want of memory.
+    // A script in its grammar, where neither the source nor the sink failed, is run to its end, or ends at 2^56 bytes or for
+    // want of memory.
     ensures complete { (script : List ℕ) → S.left source.old ≡ Some script → IsScript script
         → (Rose (S.faults source.old) (S.faults source.new) → ⊥) → (Rose (K.faults sink.old) (K.faults sink.new) → ⊥) → IsComplete result }
 

@@ -1,4 +1,4 @@
-use crate::record::Record;
+use hc_log::Record;
 use r2_base::Datagrams;
 
 /// What a reaction stores and sends. The record is stable before anything goes out.

@@ -1,11 +1,12 @@
 ghost use Rattle.std.specs.Prelude.{◌≡◌, ◌≤◌, ◌++◌, None, IfOk, IfErr, IfSome, OnOk};
 ghost use Rattle.std.specs.Io.KnownBytes.{Appends};
 ghost use Rattle.r2_link.specs.Streams.{AppendsFront};
-ghost use Rattle.hc_replay.specs.Member.{IsSound};
+ghost use Rattle.hc_replay.specs.Member.{IsSound, IsOrderly};
 ghost use Rattle.hc_replay.specs.Replay.{IsAlone};
 ghost use Rattle.hc_replay.specs.Turn.{finished, turned};
 ghost use Rattle.hc_replay.specs.Printed.{turn_text};
-ghost use Rattle.hc_replay.specs.Durable.{FitsFields};
+ghost use Rattle.hc_log.specs.Ranges.{IsInRange};
+ghost use Rattle.hc_replay.specs.Durable.{durable_of, LeadsTo};
 ghost use Rattle.hc_replay.specs.Script.{last_text};
 ghost use Rattle.hc_status.specs.Stops.{StopsBySink};
 
@@ -34,11 +35,13 @@ pub(crate) fn make_turn(
 ) -> Result<WholeTurn, NoMemory>
     requires alone { IsAlone setup.now }
     requires sound { IsSound setup.now member.old }
+    requires orderly { IsOrderly member.old }
 
     ensures state { OnOk result (member.new ≡ (turned setup.now member.old event.now).member) }
     ensures stored { IfOk result (λ turn. turn.reaction.stored ≡ (turned setup.now member.old event.now).stored) }
     ensures sends { IfOk result (λ turn. turn.replies ++ turn.reaction.sends ≡ (turned setup.now member.old event.now).sends) }
-    ensures fits { IfOk result (λ turn. IfSome turn.reaction.stored FitsFields) }
+    ensures leads { IfOk result (λ turn. LeadsTo (durable_of member.old) turn.reaction.stored (durable_of member.new)) }
+    ensures fits { IfOk result (λ turn. IfSome turn.reaction.stored IsInRange) }
 {
     let replies = member.finish(alloc, setup)?;
     let said = member.hear(event)?;
@@ -52,7 +55,7 @@ pub(crate) fn print_whole<K: Sink>(
     turn: &WholeTurn,
     sink: &mut K,
 ) -> Result<(), Status>
-    requires { IfSome turn.now.reaction.stored FitsFields }
+    requires { IfSome turn.now.reaction.stored IsInRange }
     ensures whole { OnOk result (Appends (K.written sink.old) (K.written sink.new)
         (turn_text turn.now.reaction.stored (turn.now.replies ++ turn.now.reaction.sends))) }
     ensures front { AppendsFront (K.written sink.old) (K.written sink.new)

@@ -6,7 +6,7 @@ use Rattle.r2_link.specs.Streams.{AppendsFront}
 use Rattle.r2_link.proofs.Faults.{then-Rose}
 use Rattle.r2_link.proofs.Streams.{Appends-nil, Appends-trans, AppendsFront-longer, AppendsFront-then}
 use Rattle.hc_status.specs.declared.status.Status.{Status}
-use Rattle.hc_status.specs.declared.status.Status.TheVariants.{Done, BadWords, BadScript, Memory, SourceFault, SinkFault, LinkFault, ClockFault, TimedOut, IdsUsed, TurnsSpent, NotBuilt}
+use Rattle.hc_status.specs.declared.status.Status.TheVariants.{Done, BadWords, BadScript, Memory, SourceFault, SinkFault, LinkFault, ClockFault, TimedOut, IdsUsed, TurnsSpent}
 use Rattle.hc_status.specs.Texts.{cause_text, error_text}
 use Rattle.hc_status.specs.Stops.{StopsBySink, HasSinkCause}
 
@@ -44,7 +44,6 @@ error_text-line TimedOut other = refl
 error_text-line IdsUsed other = refl
 error_text-line TurnsSpent other = refl
 error_text-line (BadScript line) other = refl
-error_text-line (NotBuilt line) other = refl
 
 pub done_says_nothing : (a : Option (List ℕ)) (status : Status) → status ≡ Done → Appends a a (error_text status)
 done_says_nothing a status done = subst (Appends a a) (sym (error_text-done status done)) (Appends-nil a)
@@ -67,7 +66,6 @@ then_stops a b c TimedOut on never = never
 then_stops a b c IdsUsed on never = never
 then_stops a b c TurnsSpent on never = never
 then_stops a b c (BadScript line) on never = never
-then_stops a b c (NotBuilt line) on never = never
 
 -- where printing stopped, the sink failed if the status says so
 pub sink_cause : (faults faults' : ℕ) (status : Status) → StopsBySink faults faults' status → HasSinkCause faults faults' status
@@ -82,4 +80,3 @@ sink_cause f f' TimedOut why = tt
 sink_cause f f' IdsUsed why = tt
 sink_cause f f' TurnsSpent why = tt
 sink_cause f f' (BadScript n) why = tt
-sink_cause f f' (NotBuilt n) why = tt

@@ -4,7 +4,7 @@ use Rattle.std.specs.Io.KnownBytes.{Appends}
 use Rattle.r2_link.specs.Faults.{Rose}
 use Rattle.r2_link.specs.Streams.{AppendsFront}
 use Rattle.hc_status.specs.declared.status.Status.{Status}
-use Rattle.hc_status.specs.declared.status.Status.TheVariants.{Done, BadWords, BadScript, Memory, SourceFault, SinkFault, LinkFault, ClockFault, TimedOut, IdsUsed, TurnsSpent, NotBuilt}
+use Rattle.hc_status.specs.declared.status.Status.TheVariants.{Done, BadWords, BadScript, Memory, SourceFault, SinkFault, LinkFault, ClockFault, TimedOut, IdsUsed, TurnsSpent}
 
 -- printing stops where the sink failed, or for want of memory, and for no other cause
 abbrev pub StopsBySink : ℕ → ℕ → Status → Type 0
@@ -19,7 +19,6 @@ StopsBySink old new ClockFault = ⊥
 StopsBySink old new TimedOut = ⊥
 StopsBySink old new IdsUsed = ⊥
 StopsBySink old new TurnsSpent = ⊥
-StopsBySink old new (NotBuilt line) = ⊥
 
 -- the sink failed in this call, where that is the status
 abbrev pub HasSinkCause : ℕ → ℕ → Status → Type 0

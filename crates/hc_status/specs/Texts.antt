@@ -2,7 +2,7 @@
 use Rattle.std.specs.Prelude.{ℕ, List, [], ◌∷◌, ◌++◌, codes}
 use Rattle.std.specs.Fmt.{decimal}
 use Rattle.hc_status.specs.declared.status.Status.{Status}
-use Rattle.hc_status.specs.declared.status.Status.TheVariants.{Done, BadWords, BadScript, Memory, SourceFault, SinkFault, LinkFault, ClockFault, TimedOut, IdsUsed, TurnsSpent, NotBuilt}
+use Rattle.hc_status.specs.declared.status.Status.TheVariants.{Done, BadWords, BadScript, Memory, SourceFault, SinkFault, LinkFault, ClockFault, TimedOut, IdsUsed, TurnsSpent}
 
 -- a status as the program's exit code
 abbrev pub code_of : Status → ℕ
@@ -17,7 +17,6 @@ code_of ClockFault = 75
 code_of TimedOut = 76
 code_of IdsUsed = 77
 code_of TurnsSpent = 78
-code_of (NotBuilt line) = 79
 
 -- a cause as a person reads it
 abbrev pub cause_text : Status → List ℕ
@@ -32,7 +31,6 @@ cause_text ClockFault = codes "the clock failed"
 cause_text TimedOut = codes "no answer"
 cause_text IdsUsed = codes "request ids used up"
 cause_text TurnsSpent = codes "turns spent"
-cause_text (NotBuilt line) = codes "line " ++ decimal line ++ codes ": not built yet"
 
 -- what the errors of a run gain: nothing where all went well, else one line
 unfoldable pub error_text : Status → List ℕ

@@ -3,4 +3,4 @@
 
 mod status;
 
-pub use status::{Status, report};
+pub use status::{Status, report, write_decimal};

@@ -36,8 +36,6 @@ pub enum Status {
     IdsUsed,
     /// As much was taken as may be, and the end wasn't reached: so many receives, or 2^56 bytes of a script.
     TurnsSpent,
-    /// The line with this number, counted from 1, can't be run yet.
-    NotBuilt { line: u64 },
 }
 
 impl Status {
@@ -57,7 +55,6 @@ impl Status {
             Status::TimedOut => 76,
             Status::IdsUsed => 77,
             Status::TurnsSpent => 78,
-            Status::NotBuilt { .. } => 79,
         }
     }
 }
@@ -78,7 +75,6 @@ impl fmt::Display for Status {
             Status::TimedOut => f.write_str("no answer"),
             Status::IdsUsed => f.write_str("request ids used up"),
             Status::TurnsSpent => f.write_str("turns spent"),
-            Status::NotBuilt { line } => write!(f, "line {line}: not built yet"),
         }
     }
 }
@@ -135,7 +131,6 @@ fn write_cause<E: Sink>(errors: &mut E, status: Status) -> Result<(), Failed>
         Status::TimedOut => write_all(errors, b"no answer"),
         Status::IdsUsed => write_all(errors, b"request ids used up"),
         Status::TurnsSpent => write_all(errors, b"turns spent"),
-        Status::NotBuilt { line } => write_at_line(errors, line, b": not built yet"),
     }
 }
 
@@ -151,14 +146,15 @@ fn write_at_line<E: Sink>(errors: &mut E, line: u64, said: &[u8]) -> Result<(), 
     write_all(errors, said)
 }
 
-fn write_decimal<E: Sink>(errors: &mut E, n: u64) -> Result<(), Failed>
-    ensures whole { OnOk result (Appends (E.written errors.old) (E.written errors.new) (decimal n)) }
-    ensures front { AppendsFront (E.written errors.old) (E.written errors.new) (decimal n) }
-    ensures steady { E.faults errors.old ≤ E.faults errors.new }
-    ensures cause { OnErr result (Rose (E.faults errors.old) (E.faults errors.new)) }
+/// Writes a number in decimal, which takes no memory.
+pub fn write_decimal<K: Sink>(sink: &mut K, n: u64) -> Result<(), Failed>
+    ensures whole { OnOk result (Appends (K.written sink.old) (K.written sink.new) (decimal n)) }
+    ensures front { AppendsFront (K.written sink.old) (K.written sink.new) (decimal n) }
+    ensures steady { K.faults sink.old ≤ K.faults sink.new }
+    ensures cause { OnErr result (Rose (K.faults sink.old) (K.faults sink.new)) }
 {
     let mut buffer = Buffer::new();
-    write_all(errors, buffer.format(n).as_bytes())
+    write_all(sink, buffer.format(n).as_bytes())
 }
 
 #[cfg(test)]
@@ -168,7 +164,7 @@ mod tests {
     use r2_link::MemSink;
     use std::test::Fail;
 
-    const ENDS: [(Status, u8, &[u8]); 12] = [
+    const ENDS: [(Status, u8, &[u8]); 11] = [
         (Status::Done, 0, b""),
         (Status::BadWords, 64, b"r2p2_suite: words not understood\n"),
         (
@@ -184,11 +180,6 @@ mod tests {
         (Status::TimedOut, 76, b"r2p2_suite: no answer\n"),
         (Status::IdsUsed, 77, b"r2p2_suite: request ids used up\n"),
         (Status::TurnsSpent, 78, b"r2p2_suite: turns spent\n"),
-        (
-            Status::NotBuilt { line: 12 },
-            79,
-            b"r2p2_suite: line 12: not built yet\n",
-        ),
     ];
 
     #[test]

@@ -1,5 +1,5 @@
 -- Addresses joined by commas, one after another.
-use Rattle.std.proofs.Common.{◌≡◌, ◌≢◌, ℕ, ◌<◌, ◌≤◌, ◌^◌, ◌/◌, ◌%◌, zero, suc, List, [], ◌∷◌, ◌++◌, length, map, get_or, All, AllPairs, refl, sym, ap, subst, ◌∙◌, arith, append_assoc, decimal, length-append, Result, MatchResult}
+use Rattle.std.proofs.Common.{◌≡◌, ◌≢◌, ℕ, ◌+◌, ◌<◌, ◌≤◌, ◌^◌, ◌/◌, ◌%◌, zero, suc, List, [], ◌∷◌, ◌++◌, length, map, get_or, All, AllPairs, refl, sym, ap, subst, ◌∙◌, arith, append_assoc, decimal, length-append, Result, MatchResult}
 use Rattle.std.specs.List.{join_with_byte}
 use Rattle.std.specs.Int.{byte_at}
 use Rattle.std.proofs.Math.Seq.{get_or-append_seam}
@@ -43,14 +43,14 @@ ip_has_no_comma ip =
     let third = both _ _ (both _ _ second (byte_has_no_comma 1 ip)) dot in
     both _ _ third (byte_has_no_comma 0 ip)
 
-address_has_no_comma : (a : Addr) → IsAddrText a (addr_text a) → NoComma (addr_text a)
+pub address_has_no_comma : (a : Addr) → IsAddrText a (addr_text a) → NoComma (addr_text a)
 unfolding addr_text
 address_has_no_comma a named =
     let colon = one_other 58 (λ (same : 58 ≡ 44). absurd (omega arith)) in
     let front = both _ _ (ip_has_no_comma a.ip) colon in
     both _ _ front (number_has_no_comma a.port (omega (arith, named.port_fits)))
 
-no_cut : (text front rest : List ℕ) → NoComma text → IsSplit 44 text front rest → ⊥
+pub no_cut : (text front rest : List ℕ) → NoComma text → IsSplit 44 text front rest → ⊥
 no_cut text front rest none split = split-none 44 text front rest (λ k inside. none k 0 inside) split
 
 -- ---- the texts of several addresses
@@ -90,8 +90,8 @@ pub record GoesOn (left : List ℕ) (addrs list : List Addr) : Type 0 where
   pub others : left ≡ joined_text more
   pub some : 0 < length more
 
-abbrev pub AllGoOn : List ℕ → List ℕ → List Addr → Type 0
-AllGoOn text left addrs = (list : List Addr) → IsAddrList list text → GoesOn left addrs list
+abbrev pub AllGoOn : ℕ → List ℕ → List ℕ → List Addr → Type 0
+AllGoOn most text left addrs = (list : List Addr) → IsAddrList most list text → GoesOn left addrs list
 
 pub read_to_begin : (text : List ℕ) → IsReadTo text text []
 read_to_begin text = record {
@@ -100,8 +100,8 @@ read_to_begin text = record {
   cut = refl;
 }
 
-pub goes_on_begin : (text : List ℕ) → AllGoOn text text []
-goes_on_begin text list is = record { more = list; begins = refl; others = is.joined; some = omega (arith, is.some) }
+pub goes_on_begin : (most : ℕ) (text : List ℕ) → AllGoOn most text text []
+goes_on_begin most text list is = record { more = list; begins = refl; others = is.joined; some = omega (arith, is.some) }
 
 push_all : {X : Type 0} (P : X → Type 0) (xs : List X) (x : X) → All P xs → P x → All P (xs ++ x ∷ [])
 push_all P xs x all here = All-append P xs (x ∷ []) all one
@@ -124,18 +124,18 @@ read_to_push text left front behind addrs a read split named fresh =
     }
 
 -- the last address ends the list
-pub list_end : (text left : List ℕ) (addrs : List Addr) (a : Addr) (list : List Addr) → IsReadTo text left addrs → length addrs ≤ 6 → IsAddrText a left
-    → All (λ b. b ≢ a) addrs → list ≡ addrs ++ a ∷ [] → IsAddrList list text
-list_end text left addrs a list read few named fresh is =
+pub list_end : (most : ℕ) (text left : List ℕ) (addrs : List Addr) (a : Addr) (list : List Addr) → IsReadTo text left addrs → length addrs < most → IsAddrText a left
+    → All (λ b. b ≢ a) addrs → list ≡ addrs ++ a ∷ [] → IsAddrList most list text
+list_end most text left addrs a list read few named fresh is =
     let own : IsAddrText a (addr_text a) = record { ip_fits = named.ip_fits; port_is_set = named.port_is_set; port_fits = named.port_fits; spelled = refl } in
-    let all : IsAddrList (addrs ++ a ∷ []) text = record {
+    let all : IsAddrList most (addrs ++ a ∷ []) text = record {
       some = omega (arith, length-append addrs (a ∷ []));
       few = omega (arith, length-append addrs (a ∷ []));
       distinct = all_pairs_push (λ x y. x ≢ y) addrs a read.distinct fresh;
       named = push_all (λ x. IsAddrText x (addr_text x)) addrs a read.named own;
       joined = read.cut ∙ ap (λ t. before addrs ++ t) named.spelled ∙ joined_text-end addrs a;
     } in
-    subst (λ l. IsAddrList l text) (sym is) all
+    subst (λ l. IsAddrList most l text) (sym is) all
 
 -- ---- what a list has next
 
@@ -144,7 +144,7 @@ pub record IsNext (addrs : List Addr) (a : Addr) : Type 0 where
   pub own : IsAddrText a (addr_text a)
   pub fresh : All (λ b. b ≢ a) addrs
 
-next_is : (text : List ℕ) (list addrs rest : List Addr) (a : Addr) → IsAddrList list text → list ≡ addrs ++ a ∷ rest → IsNext addrs a
+next_is : {most : ℕ} (text : List ℕ) (list addrs rest : List Addr) (a : Addr) → IsAddrList most list text → list ≡ addrs ++ a ∷ rest → IsNext addrs a
 next_is text list addrs rest a is begins =
     let size : length list ≡ length (addrs ++ a ∷ rest) = ap length begins in
     let inside : length addrs < length list = omega (arith, size, length-append addrs (a ∷ rest)) in
@@ -167,7 +167,7 @@ pub record IsCutNext (front behind : List ℕ) (addrs list : List Addr) : Type 0
   pub left : behind ≡ joined_text others
   pub some : 0 < length others
 
-pub cut_next : (text left front behind : List ℕ) (addrs list : List Addr) → IsAddrList list text → GoesOn left addrs list → IsSplit 44 left front behind
+pub cut_next : {most : ℕ} (text left front behind : List ℕ) (addrs list : List Addr) → IsAddrList most list text → GoesOn left addrs list → IsSplit 44 left front behind
     → ((f r : List ℕ) → IsSplit 44 left f r → (front ≡ f) × (behind ≡ r)) → IsCutNext front behind addrs list
 cut_next text left front behind addrs list is on split only = by on.more on.begins on.others on.some
   where
@@ -204,7 +204,7 @@ pub record IsLast (left : List ℕ) (addrs list : List Addr) : Type 0 where
   pub named : IsAddrText a left
   pub ends : list ≡ addrs ++ a ∷ []
 
-one_left : (text left : List ℕ) (addrs list : List Addr) (a : Addr) → IsAddrList list text → list ≡ addrs ++ a ∷ [] → left ≡ addr_text a → IsLast left addrs list
+one_left : {most : ℕ} (text left : List ℕ) (addrs list : List Addr) (a : Addr) → IsAddrList most list text → list ≡ addrs ++ a ∷ [] → left ≡ addr_text a → IsLast left addrs list
 one_left text left addrs list a is ends spelled =
     let next = next_is text list addrs [] a is ends in
     record {
@@ -215,7 +215,7 @@ one_left text left addrs list a is ends spelled =
     }
 
 -- where it has no comma
-pub last_uncut : (text left : List ℕ) (addrs list : List Addr) → IsAddrList list text → GoesOn left addrs list → ((f r : List ℕ) → IsSplit 44 left f r → ⊥) → IsLast left addrs list
+pub last_uncut : {most : ℕ} (text left : List ℕ) (addrs list : List Addr) → IsAddrList most list text → GoesOn left addrs list → ((f r : List ℕ) → IsSplit 44 left f r → ⊥) → IsLast left addrs list
 last_uncut text left addrs list is on none = by on.more on.begins on.others on.some
   where
     by : (more : List Addr) → list ≡ addrs ++ more → left ≡ joined_text more → 0 < length more → IsLast left addrs list
@@ -225,9 +225,10 @@ last_uncut text left addrs list is on none = by on.more on.begins on.others on.s
         let next = next_is text list addrs (b ∷ rest) a is begins in
         absurd (none (addr_text a) (joined_text (b ∷ rest)) (record { joined = others; first = address_has_no_comma a next.own }))
 
--- where six were read
-pub last_of_seven : (text left : List ℕ) (addrs list : List Addr) → IsAddrList list text → GoesOn left addrs list → 6 ≤ length addrs → IsLast left addrs list
-last_of_seven text left addrs list is on six = by on.more on.begins on.others on.some
+-- where all but one were read
+pub last_of_most : (most : ℕ) (text left : List ℕ) (addrs list : List Addr) → IsAddrList most list text → GoesOn left addrs list → most ≤ 1 + length addrs
+    → IsLast left addrs list
+last_of_most most text left addrs list is on full = by on.more on.begins on.others on.some
   where
     by : (more : List Addr) → list ≡ addrs ++ more → left ≡ joined_text more → 0 < length more → IsLast left addrs list
     by [] begins others some = absurd (omega arith)

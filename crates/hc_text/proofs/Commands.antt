@@ -5,13 +5,17 @@ use Rattle.clap.specs.Words.{App, Row}
 use Rattle.clap.proofs.OnLiterals.{clap_on_literals}
 use Rattle.r2_base.specs.declared.addr.Addr.{Addr}
 use Rattle.hc_text.specs.declared.meant.Meant.{Meant}
-use Rattle.hc_text.specs.declared.meant.Meant.TheVariants.{Server, Client, Replay}
+use Rattle.hc_text.specs.declared.meant.Meant.TheVariants.{Router, Server, Client, Replay}
 use Rattle.hc_text.specs.declared.policy.Policy.{Policy}
 use Rattle.hc_script.specs.declared.text_fault.TextFault.{TextFault}
 use Rattle.hc_script.specs.declared.text_fault.TextFault.TheVariants.{Outside, Memory}
 use Rattle.hc_text.specs.Options.{AreOptions, AreTaken, IsSimpleCommand, rows_of_words}
-use Rattle.hc_text.specs.Words.{client_command, command_of, replay_command, server_command, Means, Says, SaysClient, SaysReplay, SaysServer}
+use Rattle.hc_text.specs.Words.{client_command, command_of, replay_command, router_command, server_command, Means, Says, SaysClient, SaysReplay, SaysRouter, SaysServer}
 use Rattle.hc_text.proofs.Somes.{some_same}
+
+pub router_is_simple : IsSimpleCommand router_command
+unfolding router_command clap_on_literals
+router_is_simple = record { simple = refl; free = refl }
 
 pub server_is_simple : IsSimpleCommand server_command
 unfolding server_command clap_on_literals
@@ -24,6 +28,10 @@ client_is_simple = record { simple = refl; free = refl }
 pub replay_is_simple : IsSimpleCommand replay_command
 unfolding replay_command clap_on_literals
 replay_is_simple = record { simple = refl; free = refl }
+
+pub router_name : router_command.top.name ≡ codes "router"
+unfolding router_command
+router_name = refl
 
 pub server_name : server_command.top.name ≡ codes "server"
 unfolding server_command
@@ -72,12 +80,33 @@ not_outside r m only is =
     let at = subst (λ (x : Result Meant TextFault). MatchResult x (λ x. x ≡ m) (λ e. e ≡ Memory)) is only in
     cc at
 
--- the first word tells the meanings apart
+-- the first word tells the meanings apart, by its third letter
 abbrev letter : List ℕ → ℕ
-letter text = get_or text 0 0
+letter text = get_or text 2 0
 
 other_name : (words : List (List ℕ)) (a b : List ℕ) → slice_get words 0 ≡ Some a → slice_get words 0 ≡ Some b → letter a ≢ letter b → ⊥
 other_name words a b is also differ = differ (ap letter (some_same a b (sym is ∙ also)))
+
+pub record IsRouter (words : List (List ℕ)) (meant : Meant) : Type 0 where
+  pub listen : Addr
+  pub servers : List Addr
+  pub n : ℕ
+  pub workers : ℕ
+  pub tick_ms : ℕ
+  pub turns : ℕ
+  pub is : meant ≡ Router listen servers n workers tick_ms turns
+  pub taken : AreTaken router_command words
+  pub says : SaysRouter listen servers n workers tick_ms turns (rows_of_words router_command words)
+
+pub router_only : (words : List (List ℕ)) (meant : Meant) → slice_get words 0 ≡ Some (codes "router") → Means words meant → IsRouter words meant
+router_only words (Router listen servers n workers tick_ms turns) first means =
+    record { listen = listen; servers = servers; n = n; workers = workers; tick_ms = tick_ms; turns = turns; is = refl; taken = means.taken; says = means.hold }
+router_only words (Server listen router tick_ms turns) first means =
+    absurd (other_name words _ _ first (means.named ∙ ap Some server_name) (λ same. absurd (omega (arith, same))))
+router_only words (Client listen to policy wait tries tick_ms turns) first means =
+    absurd (other_name words _ _ first (means.named ∙ ap Some client_name) (λ same. absurd (omega (arith, same))))
+router_only words (Replay members me aggregator bound election) first means =
+    absurd (other_name words _ _ first (means.named ∙ ap Some replay_name) (λ same. absurd (omega (arith, same))))
 
 pub record IsServer (words : List (List ℕ)) (meant : Meant) : Type 0 where
   pub listen : Addr
@@ -89,6 +118,8 @@ pub record IsServer (words : List (List ℕ)) (meant : Meant) : Type 0 where
   pub says : SaysServer listen router tick_ms turns (rows_of_words server_command words)
 
 pub server_only : (words : List (List ℕ)) (meant : Meant) → slice_get words 0 ≡ Some (codes "server") → Means words meant → IsServer words meant
+server_only words (Router listen servers n workers tick_ms turns) first means =
+    absurd (other_name words _ _ first (means.named ∙ ap Some router_name) (λ same. absurd (omega (arith, same))))
 server_only words (Server listen router tick_ms turns) first means =
     record { listen = listen; router = router; tick_ms = tick_ms; turns = turns; is = refl; taken = means.taken; says = means.hold }
 server_only words (Client listen to policy wait tries tick_ms turns) first means =
@@ -111,6 +142,8 @@ pub record IsClient (words : List (List ℕ)) (meant : Meant) : Type 0 where
 pub client_only : (words : List (List ℕ)) (meant : Meant) → slice_get words 0 ≡ Some (codes "client") → Means words meant → IsClient words meant
 client_only words (Client listen to policy wait tries tick_ms turns) first means =
     record { listen = listen; to = to; policy = policy; wait = wait; tries = tries; tick_ms = tick_ms; turns = turns; is = refl; taken = means.taken; says = means.hold }
+client_only words (Router listen servers n workers tick_ms turns) first means =
+    absurd (other_name words _ _ first (means.named ∙ ap Some router_name) (λ same. absurd (omega (arith, same))))
 client_only words (Server listen router tick_ms turns) first means =
     absurd (other_name words _ _ first (means.named ∙ ap Some server_name) (λ same. absurd (omega (arith, same))))
 client_only words (Replay members me aggregator bound election) first means =
@@ -129,14 +162,17 @@ pub record IsReplay (words : List (List ℕ)) (meant : Meant) : Type 0 where
 pub replay_only : (words : List (List ℕ)) (meant : Meant) → slice_get words 0 ≡ Some (codes "replay") → Means words meant → IsReplay words meant
 replay_only words (Replay members me aggregator bound election) first means =
     record { members = members; me = me; aggregator = aggregator; bound = bound; election = election; is = refl; taken = means.taken; says = means.hold }
+replay_only words (Router listen servers n workers tick_ms turns) first means =
+    absurd (other_name words _ _ first (means.named ∙ ap Some router_name) (λ same. absurd (omega (arith, same))))
 replay_only words (Server listen router tick_ms turns) first means =
     absurd (other_name words _ _ first (means.named ∙ ap Some server_name) (λ same. absurd (omega (arith, same))))
 replay_only words (Client listen to policy wait tries tick_ms turns) first means =
     absurd (other_name words _ _ first (means.named ∙ ap Some client_name) (λ same. absurd (omega (arith, same))))
 
 -- no words mean anything without a command's name before them
-pub named_only : (words : List (List ℕ)) (meant : Meant) → Means words meant
+pub named_only : (words : List (List ℕ)) (meant : Meant) → Means words meant → slice_get words 0 ≢ Some (codes "router")
     → slice_get words 0 ≢ Some (codes "server") → slice_get words 0 ≢ Some (codes "client") → slice_get words 0 ≢ Some (codes "replay") → ⊥
-named_only words (Server listen router tick_ms turns) means server client replay = server (means.named ∙ ap Some server_name)
-named_only words (Client listen to policy wait tries tick_ms turns) means server client replay = client (means.named ∙ ap Some client_name)
-named_only words (Replay members me aggregator bound election) means server client replay = replay (means.named ∙ ap Some replay_name)
+named_only words (Router listen servers n workers tick_ms turns) means router server client replay = router (means.named ∙ ap Some router_name)
+named_only words (Server listen router tick_ms turns) means other server client replay = server (means.named ∙ ap Some server_name)
+named_only words (Client listen to policy wait tries tick_ms turns) means router server client replay = client (means.named ∙ ap Some client_name)
+named_only words (Replay members me aggregator bound election) means router server client replay = replay (means.named ∙ ap Some replay_name)

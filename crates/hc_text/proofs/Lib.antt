@@ -3,5 +3,7 @@ pub mod CallLines
 pub mod Commands
 pub mod Ends
 pub mod FirstWords
+pub mod OneMeaning
+pub mod SameTexts
 pub mod Somes
 pub mod Worked

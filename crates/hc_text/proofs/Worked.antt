@@ -56,7 +56,7 @@ answers_are_printed index status value fits = ap (λ t. t ++ 10 ∷ []) (reply_t
 
 nothing_without_words : MeanNothing []
 nothing_without_words meant means =
-    named_only [] meant means (λ is. none_is_not_some _ is) (λ is. none_is_not_some _ is) (λ is. none_is_not_some _ is)
+    named_only [] meant means (λ is. none_is_not_some _ is) (λ is. none_is_not_some _ is) (λ is. none_is_not_some _ is) (λ is. none_is_not_some _ is)
 
 -- the first letter of another word
 other_first : (a b : List ℕ) → length a ≢ length b → Some a ≡ Some b → ⊥
@@ -65,6 +65,7 @@ other_first a b other same = other (ap length (some_same a b same))
 fly_means_nothing : MeanNothing (codes "fly" ∷ [])
 fly_means_nothing meant means =
     named_only (codes "fly" ∷ []) meant means
+    (λ is. other_first (codes "fly") (codes "router") (λ same. absurd (omega (arith, same))) is)
     (λ is. other_first (codes "fly") (codes "server") (λ same. absurd (omega (arith, same))) is)
     (λ is. other_first (codes "fly") (codes "client") (λ same. absurd (omega (arith, same))) is)
     (λ is. other_first (codes "fly") (codes "replay") (λ same. absurd (omega (arith, same))) is)

@@ -20,11 +20,15 @@ abbrev pub AnswersArePrinted : Type 0
 AnswersArePrinted = (index status : ℕ) (value : List ℕ) → index < 2 ^ 64
     → end_text (Reply (payload_of index status value)) ≡ served_text index status value ++ 10 ∷ []
 
+-- no words mean two things
+abbrev pub WordsMeanOneThing : Type 0
+WordsMeanOneThing = (words : List (List ℕ)) (a b : Meant) → Means words a → Means words b → a ≡ b
+
 -- the words mean nothing
 abbrev pub MeanNothing : List (List ℕ) → Type 0
 MeanNothing words = (meant : Meant) → Means words meant → ⊥
 
--- words without a command, and options that are missing, doubled, empty, unknown or without a name
+-- no words, words of no command, and options that are missing, doubled, without a value, unknown or without a name
 pub record SomeMeanNothing : Type 0 where
   pub none : MeanNothing []
   pub unknown_command : MeanNothing (codes "fly" ∷ [])

@@ -5,17 +5,17 @@ use Rattle.clap.specs.Words.{App, Row}
 use Rattle.r2_base.specs.declared.addr.Addr.{Addr}
 use Rattle.r2_base.specs.Addr.{IsAddrText, addr_text}
 use Rattle.hc_text.specs.declared.meant.Meant.{Meant}
-use Rattle.hc_text.specs.declared.meant.Meant.TheVariants.{Server, Client, Replay}
+use Rattle.hc_text.specs.declared.meant.Meant.TheVariants.{Router, Server, Client, Replay}
 use Rattle.hc_text.specs.declared.policy.Policy.{Policy}
 use Rattle.hc_text.specs.declared.policy.Policy.TheVariants.{Fixed, Jbsq, Replicated}
 use Rattle.hc_text.specs.Options.{AreOptions, HasOption, IsNumberText, MayHaveAddr, command_with, defaulted, optional, required}
 
 -- ---- the texts of options
 
--- addresses joined by commas, all distinct, 1 to 7 of them
-pub record IsAddrList (addrs : List Addr) (text : List ℕ) : Type 0 where
+-- addresses joined by commas, all distinct, 1 to so many of them
+pub record IsAddrList (most : ℕ) (addrs : List Addr) (text : List ℕ) : Type 0 where
   pub some : 1 ≤ length addrs
-  pub few : length addrs ≤ 7
+  pub few : length addrs ≤ most
   pub distinct : AllPairs (λ a b. a ≢ b) addrs
   pub named : All (λ a. IsAddrText a (addr_text a)) addrs
   pub joined : text ≡ join_with_byte 44 (map addr_text addrs)
@@ -26,7 +26,7 @@ policy_word Fixed = codes "fixed"
 policy_word Jbsq = codes "jbsq"
 policy_word Replicated = codes "replicated"
 
--- ticks of 1 to 1,000 milliseconds, 10 where nothing is said
+-- ticks of 1 to 1,000 milliseconds
 abbrev pub IsTickText : ℕ → List ℕ → Type 0
 IsTickText = IsNumberText 1 1000
 
@@ -34,7 +34,22 @@ IsTickText = IsNumberText 1 1000
 abbrev pub IsTurnsText : ℕ → List ℕ → Type 0
 IsTurnsText = IsNumberText 1 72057594037927936
 
+-- one worker, which is what runs today
+abbrev pub IsWorkersText : ℕ → List ℕ → Type 0
+IsWorkersText = IsNumberText 1 1
+
 -- ---- the commands
+
+unfoldable pub router_command : App
+router_command =
+    command_with (codes "router")
+    (required (codes "listen")
+    ∷ required (codes "servers")
+    ∷ defaulted (codes "n") (codes "2")
+    ∷ defaulted (codes "workers") (codes "1")
+    ∷ defaulted (codes "tick-ms") (codes "100")
+    ∷ defaulted (codes "turns") (codes "72057594037927936")
+    ∷ [])
 
 unfoldable pub server_command : App
 server_command =
@@ -69,6 +84,14 @@ replay_command =
 
 -- ---- what the options of a command say
 
+pub record SaysRouter (listen : Addr) (servers : List Addr) (n workers tick_ms turns : ℕ) (rows : List Row) : Type 0 where
+  pub listens : HasOption rows (codes "listen") (IsAddrText listen)
+  pub targets : HasOption rows (codes "servers") (IsAddrList 64 servers)
+  pub bounded : HasOption rows (codes "n") (IsNumberText 1 16 n)
+  pub works : HasOption rows (codes "workers") (IsWorkersText workers)
+  pub ticks : HasOption rows (codes "tick-ms") (IsTickText tick_ms)
+  pub ends : HasOption rows (codes "turns") (IsTurnsText turns)
+
 pub record SaysServer (listen : Addr) (router : Option Addr) (tick_ms turns : ℕ) (rows : List Row) : Type 0 where
   pub listens : HasOption rows (codes "listen") (IsAddrText listen)
   pub routed : MayHaveAddr rows (codes "router") router
@@ -77,7 +100,7 @@ pub record SaysServer (listen : Addr) (router : Option Addr) (tick_ms turns : �
 
 pub record SaysClient (listen : Addr) (to : List Addr) (policy : Policy) (wait tries tick_ms turns : ℕ) (rows : List Row) : Type 0 where
   pub listens : HasOption rows (codes "listen") (IsAddrText listen)
-  pub targets : HasOption rows (codes "to") (IsAddrList to)
+  pub targets : HasOption rows (codes "to") (IsAddrList 7 to)
   pub by_policy : HasOption rows (codes "policy") (λ text. text ≡ policy_word policy)
   pub waits : HasOption rows (codes "wait") (IsNumberText 1 100000 wait)
   pub tried : HasOption rows (codes "tries") (IsNumberText 1 1000 tries)
@@ -95,7 +118,7 @@ pub record IsAlone (members : List Addr) (aggregator : Option Addr) : Type 0 whe
   pub direct : aggregator ≡ None
 
 pub record SaysReplay (members : List Addr) (me : ℕ) (aggregator : Option Addr) (bound election : ℕ) (rows : List Row) : Type 0 where
-  pub group : HasOption rows (codes "members") (IsAddrList members)
+  pub group : HasOption rows (codes "members") (IsAddrList 7 members)
   pub own : HasOption rows (codes "me") (IsNumberText 0 6 me)
   pub is_member : me < length members
   pub aggregated : MayHaveAddr rows (codes "aggregator") aggregator
@@ -108,12 +131,14 @@ pub record SaysReplay (members : List Addr) (me : ℕ) (aggregator : Option Addr
 
 -- the command of a meaning
 abbrev pub command_of : Meant → App
+command_of (Router listen servers n workers tick_ms turns) = router_command
 command_of (Server listen router tick_ms turns) = server_command
 command_of (Client listen to policy wait tries tick_ms turns) = client_command
 command_of (Replay members me aggregator bound election) = replay_command
 
 -- what its options say
 abbrev pub Says : Meant → List Row → Type 0
+Says (Router listen servers n workers tick_ms turns) = SaysRouter listen servers n workers tick_ms turns
 Says (Server listen router tick_ms turns) = SaysServer listen router tick_ms turns
 Says (Client listen to policy wait tries tick_ms turns) = SaysClient listen to policy wait tries tick_ms turns
 Says (Replay members me aggregator bound election) = SaysReplay members me aggregator bound election

@@ -1,4 +1,4 @@
-ghost use Rattle.std.specs.Prelude.{◌≡◌, ◌≢◌, ◌∷◌, ◌++◌, List, [], true, false, All, Any, IfOk, OnOk, MatchResult};
+ghost use Rattle.std.specs.Prelude.{◌≡◌, ◌≢◌, ◌≤◌, ◌∷◌, ◌++◌, List, [], true, false, All, Any, IfOk, OnOk, MatchResult};
 ghost use Rattle.r2_base.specs.declared.addr.Addr.{Addr as Address};
 ghost use Rattle.r2_base.specs.Addr.{IsAddrText};
 ghost use Rattle.hc_text.specs.Words.{IsAddrList};
@@ -7,17 +7,15 @@ use hc_script::TextFault;
 use r2_base::{Addr, Addrs, read_addr, split_once};
 use std::alloc::Global;
 
-/// How many commas a list has at most; it has one address more.
-const MOST_COMMAS: u64 = 6;
-
-/// The addresses of a text that joins 1 to 7 of them by commas, all distinct.
-pub(crate) fn read_addr_list(alloc: Global, text: &[u8]) -> Result<Addrs, TextFault>
-    ensures found { IfOk result (λ addrs. IsAddrList addrs text.now) }
-    ensures only { (addrs : List Address) → IsAddrList addrs text.now → MatchResult result (λ r. r ≡ addrs) (λ e. e ≡ TextFault.Memory) }
+/// The addresses of a text that joins 1 to `most` of them by commas, all distinct.
+pub(crate) fn read_addr_list(alloc: Global, text: &[u8], most: u64) -> Result<Addrs, TextFault>
+    requires { 1 ≤ most }
+    ensures found { IfOk result (λ addrs. IsAddrList most addrs text.now) }
+    ensures only { (addrs : List Address) → IsAddrList most addrs text.now → MatchResult result (λ r. r ≡ addrs) (λ e. e ≡ TextFault.Memory) }
 {
     let mut addrs = Vec::new(alloc);
     let mut left = text;
-    'commas: for done in 0..MOST_COMMAS {
+    'commas: for place in 1..most {
         let Some((front, behind)) = split_once(left, b',') else {
             return end_list(addrs, left);
         };

@@ -70,7 +70,7 @@ fn read_client(alloc: Global, matches: &ArgMatches) -> Result<Meant, TextFault>
     let Some(turns) = number_of(matches, "turns", 1, 72_057_594_037_927_936) else {
         return Err(TextFault::Outside);
     };
-    let to = match addrs_of(alloc, matches, "to") {
+    let to = match addrs_of(alloc, matches, "to", 7) {
         Ok(to) => to,
         Err(fault) => return Err(fault),
     };

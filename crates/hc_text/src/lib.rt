@@ -12,6 +12,7 @@ mod meant;
 mod options;
 mod policy;
 mod replay_words;
+mod router_words;
 mod server_words;
 mod value;
 mod words;

@@ -6,6 +6,16 @@ use r2_base::{Addr, Addrs};
 /// Ticks are given in milliseconds, waits and elections in ticks.
 #[derive(Debug, PartialEq, Eq, Drop)]
 pub enum Meant {
+    /// A router of requests before some servers.
+    Router {
+        listen: Addr,
+        servers: Addrs,
+        /// How many requests a server may hold.
+        n: u8,
+        workers: u8,
+        tick_ms: u32,
+        turns: u64,
+    },
     /// The key-value service on one server.
     Server {
         listen: Addr,

@@ -114,14 +114,20 @@ pub(crate) fn number_of(matches: &ArgMatches, name: &str, least: u64, most: u64)
     Some(n)
 }
 
-/// The addresses of the option, joined by commas.
-pub(crate) fn addrs_of(alloc: Global, matches: &ArgMatches, name: &str) -> Result<Addrs, TextFault>
-    ensures found { IfOk result (λ addrs. HasOption (rows_of (found_of matches.now)) name.now (IsAddrList addrs)) }
-    ensures only { (addrs : List Address) → HasOption (rows_of (found_of matches.now)) name.now (IsAddrList addrs)
+/// The addresses of the option, joined by commas, `most` of them at most.
+pub(crate) fn addrs_of(
+    alloc: Global,
+    matches: &ArgMatches,
+    name: &str,
+    most: u64,
+) -> Result<Addrs, TextFault>
+    requires { 1 ≤ most }
+    ensures found { IfOk result (λ addrs. HasOption (rows_of (found_of matches.now)) name.now (IsAddrList most addrs)) }
+    ensures only { (addrs : List Address) → HasOption (rows_of (found_of matches.now)) name.now (IsAddrList most addrs)
         → MatchResult result (λ r. r ≡ addrs) (λ e. e ≡ TextFault.Memory) }
 {
     let Some(text) = text_of(matches, name) else {
         return Err(TextFault::Outside);
     };
-    read_addr_list(alloc, text.as_bytes())
+    read_addr_list(alloc, text.as_bytes(), most)
 }

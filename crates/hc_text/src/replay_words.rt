@@ -59,7 +59,7 @@ fn read_replay(alloc: Global, matches: &ArgMatches) -> Result<Meant, TextFault>
     let Some(election) = number_of(matches, "election", 1, 1_000) else {
         return Err(TextFault::Outside);
     };
-    let members = match addrs_of(alloc, matches, "members") {
+    let members = match addrs_of(alloc, matches, "members", 7) {
         Ok(members) => members,
         Err(fault) => return Err(fault),
     };

@@ -133,6 +133,33 @@ fn addrs(alloc: Global, items: &[Addr]) -> Result<Addrs, AllocError> {
 }
 
 #[test]
+fn words_of_a_router(rt: HostRuntime) -> Result<(), Fail> {
+    let alloc = rt.alloc();
+    let plain = Meant::Router {
+        listen: CLIENT,
+        servers: addrs(alloc, &[SERVER])?,
+        n: 2,
+        workers: 1,
+        tick_ms: 100,
+        turns: 72_057_594_037_927_936,
+    };
+    let line = "router --listen 10.0.0.9:7001 --servers 10.0.0.1:9000";
+    assert!(rt; meant(alloc, line)? == Ok(plain));
+    let full = Meant::Router {
+        listen: SERVER,
+        servers: addrs(alloc, &[CLIENT, SERVER])?,
+        n: 16,
+        workers: 1,
+        tick_ms: 1_000,
+        turns: 1,
+    };
+    let line =
+        "router --servers=10.0.0.9:7001,10.0.0.1:9000 --n 16 --workers=1 --turns 1 --tick-ms 1000 --listen=10.0.0.1:9000";
+    assert!(rt; meant(alloc, line)? == Ok(full));
+    Ok(())
+}
+
+#[test]
 fn words_of_a_server(rt: HostRuntime) -> Result<(), Fail> {
     let alloc = rt.alloc();
     let plain = Meant::Server {
@@ -215,6 +242,13 @@ fn other_words(rt: HostRuntime) -> Result<(), Fail> {
         "replay --members 10.0.0.1:9000 --me 0 --election 1001",
         "replay --members 10.0.0.1:9000 --me 0 --aggregator 10.0.0.2:9000",
         "replay --members 10.0.0.1:9000,10.0.0.2:9000 --me 0",
+        "router --listen 10.0.0.9:7001",
+        "router --servers 10.0.0.1:9000",
+        "router --listen 10.0.0.9:7001 --servers 10.0.0.1:9000,10.0.0.1:9000",
+        "router --listen 10.0.0.9:7001 --servers 10.0.0.1:9000 --n 0",
+        "router --listen 10.0.0.9:7001 --servers 10.0.0.1:9000 --n 17",
+        "router --listen 10.0.0.9:7001 --servers 10.0.0.1:9000 --workers 2",
+        "router --listen 10.0.0.9:7001 --servers 10.0.0.1:9000 --tick-ms 1001",
         "server --listen=",
         "server --listen 10.0.0.1:9000 --router=",
         "server --listen 10.0.0.1:9000 --tick-ms 010",

@@ -6,6 +6,7 @@ ghost use Rattle.hc_text.specs.Words.{Means};
 use crate::client_words::client_meaning;
 use crate::meant::Meant;
 use crate::replay_words::replay_meaning;
+use crate::router_words::router_meaning;
 use crate::server_words::server_meaning;
 use hc_script::TextFault;
 use std::alloc::Global;
@@ -20,6 +21,9 @@ pub fn meaning(alloc: Global, words: &[String]) -> Result<Meant, TextFault>
         → MatchResult result (λ r. r ≡ m) (λ e. e ≡ TextFault.Memory) }
     ensures outside { result ≡ Err TextFault.Outside → (m : Meaning) → Means (map (λ w. string_bytes w) words.now) m → ⊥ }
 {
+    if has_name(words, "router") {
+        return router_meaning(alloc, words);
+    }
     if has_name(words, "server") {
         return server_meaning(alloc, words);
     }

@@ -1,4 +1,3 @@
 pub mod PlainTurns
-pub mod Weaker
 pub mod Bindings
 pub mod Meanings

@@ -1,20 +1,31 @@
 -- What holds of the commands that words mean, and of their ends.
 use Rattle.std.proofs.Common.{◌≡◌, ◌⊎◌, inl, inr, ℕ, ◌≤◌, ◌<◌, ◌^◌, List, [], length, Option, refl, sym, arith}
 use Rattle.r2_base.specs.declared.addr.Addr.{Addr}
+use Rattle.r2_link.specs.declared.lane.Item.{Item}
 use Rattle.r2_link.proofs.Streams.{Consumes-nil}
 use Rattle.hc_text.specs.declared.meant.Meant.{Meant}
-use Rattle.hc_text.specs.declared.meant.Meant.TheVariants.{Server, Client, Replay}
+use Rattle.hc_text.specs.declared.meant.Meant.TheVariants.{Router, Server, Client, Replay}
 use Rattle.hc_text.specs.Words.{Means}
 use Rattle.hc_status.specs.declared.status.Status.{Status}
 use Rattle.hc_status.specs.declared.status.Status.TheVariants.{BadWords, Memory}
-use Rattle.hc_loops.proofs.Told.{Passes-none}
+use Rattle.hc_loops.proofs.Told.{IsKept-refl, Passes-none}
+use Rattle.hc_routing.proofs.Routes.{routes-nothing}
 use Rattle.hc_calling.specs.Outside.{Outside}
 use Rattle.hc_calling.proofs.Passing.{passes-none}
 use Rattle.hc_replay.proofs.Replays.{nothing-of}
-use Rattle.hc_tops.specs.Commands.{EndsWell, IsPlain, IsRefusal, IsWithin, Runs, UsesLink, UsesScript, loop_part}
+use Rattle.hc_tops.specs.Commands.{EndsWell, IsWithin, Runs, around, loop_part}
 
 -- the numbers of a meaning are within their limits
 pub means_within : (words : List (List ℕ)) (m : Meant) → Means words m → IsWithin m
+means_within words (Router listen servers n workers tick_ms turns) means = (
+  means.hold.targets.holds.some,
+  means.hold.targets.holds.few,
+  means.hold.bounded.holds.from_least,
+  means.hold.bounded.holds.to_most,
+  omega (arith, means.hold.works.holds.from_least, means.hold.works.holds.to_most),
+  means.hold.ticks.holds.from_least,
+  omega (arith, means.hold.ends.holds.to_most),
+)
 means_within words (Server listen router tick_ms turns) means =
     (means.hold.ticks.holds.from_least, omega (arith, means.hold.ends.holds.to_most))
 means_within words (Client listen to policy wait tries tick_ms turns) means =
@@ -30,25 +41,23 @@ means_within words (Replay members me aggregator bound election) means = record 
 }
 
 -- memory ran out before anything was done
-pub runs-nothing : (m : Meant) (left : Option (List ℕ)) (o : Outside) → Runs m left left o o Memory
-runs-nothing (Server listen router tick_ms turns) left o = inl (Passes-none (loop_part o))
-runs-nothing (Client listen to policy wait tries tick_ms turns) left o = inl (record { took = Consumes-nil left; passed = passes-none o })
-runs-nothing (Replay members me aggregator bound election) left o =
+pub runs-nothing : (m : Meant) (left : Option (List ℕ)) (lanes : Option (List (List Item))) (o : Outside) → Runs m left left lanes lanes o o Memory
+runs-nothing (Router listen servers n workers tick_ms turns) left lanes o =
+    (routes-nothing (record { me = listen; servers = servers; n = n }) (record { tick_ms = tick_ms; turns = turns }) (around lanes o) o.written, IsKept-refl o.left)
+runs-nothing (Server listen router tick_ms turns) left lanes o = inl (Passes-none (loop_part o))
+runs-nothing (Client listen to policy wait tries tick_ms turns) left lanes o = inl (record { took = Consumes-nil left; passed = passes-none o })
+runs-nothing (Replay members me aggregator bound election) left lanes o =
     nothing-of (record { members = members; me = me; aggregator = aggregator; bound = bound; election = election }) left o.written
 
 pub ends-for-memory : (m : Meant) (left : Option (List ℕ)) (source sink link clock : Type 0) → EndsWell m left source sink link clock Memory
+ends-for-memory (Router listen servers n workers tick_ms turns) left source sink link clock = λ a b c. tt
 ends-for-memory (Server listen router tick_ms turns) left source sink link clock = λ a b. tt
 ends-for-memory (Client listen to policy wait tries tick_ms turns) left source sink link clock = λ script is said a b c d. tt
 ends-for-memory (Replay members me aggregator bound election) left source sink link clock = λ script is said a b. tt
 
 -- no command that ran refuses its words
-pub runs-known : (m : Meant) (left left' : Option (List ℕ)) (a b : Outside) → Runs m left left' a b BadWords → ⊥
-runs-known (Server listen router tick_ms turns) left left' a b ran = ran.ended
-runs-known (Client listen to policy wait tries tick_ms turns) left left' a b ran = ran.lines.ended
-runs-known (Replay members me aggregator bound election) left left' a b ran = ran.did
-
--- what isn't a server is plain
-pub plain-of : (m : Meant) → ((listen : Addr) (router : Option Addr) (tick_ms turns : ℕ) → m ≡ Server listen router tick_ms turns → ⊥) → IsPlain m
-plain-of (Server listen router tick_ms turns) other = absurd (other listen router tick_ms turns refl)
-plain-of (Client listen to policy wait tries tick_ms turns) other = tt
-plain-of (Replay members me aggregator bound election) other = tt
+pub runs-known : (m : Meant) (left left' : Option (List ℕ)) (lanes lanes' : Option (List (List Item))) (a b : Outside) → Runs m left left' lanes lanes' a b BadWords → ⊥
+runs-known (Router listen servers n workers tick_ms turns) left left' lanes lanes' a b ran = ran.0
+runs-known (Server listen router tick_ms turns) left left' lanes lanes' a b ran = ran.ended
+runs-known (Client listen to policy wait tries tick_ms turns) left left' lanes lanes' a b ran = ran.lines.ended
+runs-known (Replay members me aggregator bound election) left left' lanes lanes' a b ran = ran.did

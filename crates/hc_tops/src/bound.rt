@@ -7,16 +7,18 @@ ghost use Rattle.hc_loops.specs.Outside.{Passes};
 ghost use Rattle.hc_calling.specs.Calls.{Calls, DoesNothing, IsCalled};
 ghost use Rattle.hc_calling.specs.Outside.{outside};
 ghost use Rattle.hc_calling.specs.Script.{IsScript};
+ghost use Rattle.hc_routing.specs.Routes.{Routes};
 ghost use Rattle.hc_tops.specs.Commands.{BehindBinding};
 ghost use Rattle.hc_tops.specs.Plain.{PlainSends};
 
 use crate::plain::serve_plain;
 use hc_calling::{Calling, call_client};
 use hc_loops::Pace;
+use hc_routing::serve_router;
 use hc_service::Kv;
 use hc_status::Status;
-use r2_base::Addr;
-use r2_link::{Clock, Link, Sink, Source};
+use r2_base::{Addr, Addrs};
+use r2_link::{Clock, Link, Sink, Source, Twin};
 use std::alloc::Global;
 
 /// Binds the link to a client's address, and makes the calls of a script.
@@ -92,4 +94,45 @@ pub(crate) fn serve_bound<L: Link, C: Clock>(
         return Status::LinkFault;
     }
     serve_plain(alloc, listen, router, Kv::new(alloc), link, clock, pace)
+}
+
+/// Binds the link to a router's address, and runs the router on a twin of it.
+pub(crate) fn route_bound<K: Sink, L: Twin, C: Clock>(
+    alloc: Global,
+    listen: Addr,
+    servers: Addrs,
+    n: u8,
+    workers: u8,
+    sink: &mut K,
+    link: &mut L,
+    clock: &mut C,
+    pace: Pace,
+) -> Status
+    requires some_server { 1 ≤ length servers }
+    requires few_servers { length servers ≤ 64 }
+    requires some_request { 1 ≤ n }
+    requires few_requests { n ≤ 16 }
+    requires one_worker { workers ≡ 1 }
+    requires tick { 1 ≤ pace.tick_ms }
+    requires turns { pace.turns ≤ 2 ^ 56 }
+
+    ensures ran { Routes (record { me = listen; servers = servers; n = n }) pace
+        (record { lanes = L.lanes link.old; sent = L.sent link.old; clock = C.left clock.old })
+        (record { lanes = L.lanes link.new; sent = L.sent link.new; clock = C.left clock.new }) (K.written sink.old) (K.written sink.new) result }
+    ensures left { IsKept (L.left link.old) (L.left link.new) }
+
+    ensures complete { (Rose (K.faults sink.old) (K.faults sink.new) → ⊥) → (Rose (L.faults link.old) (L.faults link.new) → ⊥)
+        → (Rose (C.faults clock.old) (C.faults clock.new) → ⊥) → IsServed result }
+
+    ensures sink_fault { result ≡ SinkFault → Rose (K.faults sink.old) (K.faults sink.new) }
+    ensures link_fault { result ≡ LinkFault → Rose (L.faults link.old) (L.faults link.new) }
+    ensures clock_fault { result ≡ ClockFault → Rose (C.faults clock.old) (C.faults clock.new) }
+    ensures sink_steady { K.faults sink.old ≤ K.faults sink.new }
+    ensures link_steady { L.faults link.old ≤ L.faults link.new }
+    ensures clock_steady { C.faults clock.old ≤ C.faults clock.new }
+{
+    if let Err(_) = link.bind(listen) {
+        return Status::LinkFault;
+    }
+    serve_router(alloc, listen, servers, n, workers, sink, link, clock, pace)
 }

@@ -8,6 +8,7 @@ mod top;
 pub use hc_calling::{Calling, call_client};
 pub use hc_loops::Pace;
 pub use hc_replay::{Setup, replay};
+pub use hc_routing::serve_router;
 pub use hc_status::{Status, report};
 pub use hc_text::Policy;
 pub use plain::serve_plain;
@@ -17,3 +18,5 @@ pub use top::{run, run_plain};
 mod plain_tests;
 #[cfg(test)]
 mod tests;
+#[cfg(test)]
+mod together_tests;

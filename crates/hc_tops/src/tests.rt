@@ -232,40 +232,58 @@ out 10.0.0.9:7001 520813C000030001000000000000000401\n";
 }
 
 /// The first call of the link binds it, and the second receives the link's end.
+const FAILED: &[u8] = b"r2p2_suite: the link failed\n";
+
+/// Whether a run of these words on a link that brings nothing, and whose call with this number fails, where 0 is none, ends so and
+/// prints that.
+fn is_right(
+    alloc: Global,
+    words: &[String],
+    fails: u64,
+    status: Status,
+    text: &[u8],
+    line: &[u8],
+) -> Result<bool, Fail> {
+    let mut given = source(alloc, b"", &[])?;
+    let mut printed = sink(alloc, &[])?;
+    let mut errors = sink(alloc, &[])?;
+    let mut lane = link(alloc, &[], &[fails])?;
+    let mut moments = clock(alloc)?;
+    let ended = run(
+        alloc,
+        words,
+        &mut given,
+        &mut printed,
+        &mut errors,
+        &mut lane,
+        &mut moments,
+    );
+    Ok(ended == status && printed.written() == text && errors.written() == line)
+}
+
 #[test]
 fn a_server_binds_its_link_and_then_receives(rt: HostRuntime) -> Result<(), Fail> {
     let alloc = rt.alloc();
     let server = words(alloc, &["server", "--listen", "10.0.0.1:9000"])?;
-    for (fails, status, line) in [
-        (0, Status::Done, b"".as_slice()),
-        (
-            1,
-            Status::LinkFault,
-            b"r2p2_suite: the link failed\n".as_slice(),
-        ),
-        (
-            2,
-            Status::LinkFault,
-            b"r2p2_suite: the link failed\n".as_slice(),
-        ),
-    ] {
-        let mut given = source(alloc, b"", &[])?;
-        let mut printed = sink(alloc, &[])?;
-        let mut errors = sink(alloc, &[])?;
-        let mut lane = link(alloc, &[], &[fails])?;
-        let mut moments = clock(alloc)?;
-        let ended = run(
-            alloc,
-            server.as_slice(),
-            &mut given,
-            &mut printed,
-            &mut errors,
-            &mut lane,
-            &mut moments,
-        );
-        assert!(rt; ended == status);
-        assert!(rt; errors.written() == line);
-    }
+    assert!(rt; is_right(alloc, server.as_slice(), 0, Status::Done, b"", b"")?);
+    assert!(rt; is_right(alloc, server.as_slice(), 1, Status::LinkFault, b"", FAILED)?);
+    assert!(rt; is_right(alloc, server.as_slice(), 2, Status::LinkFault, b"", FAILED)?);
+    Ok(())
+}
+
+#[test]
+fn a_router_binds_its_link_and_then_makes_a_twin(rt: HostRuntime) -> Result<(), Fail> {
+    let alloc = rt.alloc();
+    let line = [
+        "router",
+        "--listen=10.0.0.8:9050",
+        "--servers=10.0.0.1:9000",
+    ];
+    let router = words(alloc, &line)?;
+    let totals = b"turns 0 accepted 0 forwarded 0 answered 0\n";
+    assert!(rt; is_right(alloc, router.as_slice(), 0, Status::Done, totals, b"")?);
+    assert!(rt; is_right(alloc, router.as_slice(), 1, Status::LinkFault, b"", FAILED)?);
+    assert!(rt; is_right(alloc, router.as_slice(), 2, Status::LinkFault, b"", FAILED)?);
     Ok(())
 }
 

@@ -10,9 +10,9 @@ ghost use Rattle.hc_status.specs.declared.status.Status.TheVariants.{BadWords, S
 ghost use Rattle.hc_loops.specs.Loop.{IsServed, Serves};
 ghost use Rattle.hc_loops.specs.Outside.{Passes};
 ghost use Rattle.hc_calling.specs.Outside.{outside};
-ghost use Rattle.hc_tops.specs.Commands.{EndsWell, IsPlain, IsRefusal, IsWithin, Runs, UsesLink, UsesScript};
+ghost use Rattle.hc_tops.specs.Commands.{EndsWell, IsPlain, IsRefusal, IsWithin, Prints, Runs, UsesLink, UsesScript, UsesTwins};
 
-use crate::bound::{call_bound, serve_bound};
+use crate::bound::{call_bound, route_bound, serve_bound};
 use hc_calling::Calling;
 use hc_loops::Pace;
 use hc_replay::{Setup, replay};
@@ -21,7 +21,7 @@ use hc_text::{Meant, TextFault, meaning};
 use r2_link::{Clock, Link, Sink, Source, Twin};
 use std::alloc::Global;
 
-/// Runs what the words mean, unless that is a server.
+/// Runs what the words mean, unless that is a router or a server.
 fn run_plain_meant<S: Source, K: Sink, L: Link, C: Clock>(
     alloc: Global,
     meant: Meant,
@@ -32,13 +32,13 @@ fn run_plain_meant<S: Source, K: Sink, L: Link, C: Clock>(
 ) -> Status
     requires { IsWithin meant }
 
-    ensures ran { IsPlain meant → Runs meant (S.left source.old) (S.left source.new)
+    ensures ran { IsPlain meant → Runs meant (S.left source.old) (S.left source.new) (L.lanes link.old) (L.lanes link.new)
         (outside (L.left link.old) (L.sent link.old) (C.left clock.old) (K.written sink.old)) (outside (L.left link.new) (L.sent link.new) (C.left clock.new) (K.written sink.new)) result }
     ensures complete { IsPlain meant → EndsWell meant (S.left source.old) (Rose (S.faults source.old) (S.faults source.new)) (Rose (K.faults sink.old) (K.faults sink.new)) (Rose (L.faults link.old) (L.faults link.new)) (Rose (C.faults clock.old) (C.faults clock.new)) result }
     ensures refused { (IsPlain meant → ⊥) → result ≡ BadWords }
 
     ensures source_kept { (IsPlain meant → UsesScript meant → ⊥) → source.new ≡ source.old }
-    ensures sink_kept { (IsPlain meant → UsesScript meant → ⊥) → sink.new ≡ sink.old }
+    ensures sink_kept { (IsPlain meant → Prints meant → ⊥) → sink.new ≡ sink.old }
     ensures link_kept { (IsPlain meant → UsesLink meant → ⊥) → link.new ≡ link.old }
     ensures clock_kept { (IsPlain meant → UsesLink meant → ⊥) → clock.new ≡ clock.old }
     ensures lanes { IsKept (L.lanes link.old) (L.lanes link.new) }
@@ -52,6 +52,7 @@ fn run_plain_meant<S: Source, K: Sink, L: Link, C: Clock>(
     ensures clock_steady { C.faults clock.old ≤ C.faults clock.new }
 {
     match meant {
+        Meant::Router { .. } => Status::BadWords,
         Meant::Server { .. } => Status::BadWords,
         Meant::Client {
             listen,
@@ -109,15 +110,15 @@ fn run_meant<S: Source, K: Sink, L: Twin, C: Clock>(
 ) -> Status
     requires { IsWithin meant }
 
-    ensures ran { Runs meant (S.left source.old) (S.left source.new)
+    ensures ran { Runs meant (S.left source.old) (S.left source.new) (L.lanes link.old) (L.lanes link.new)
         (outside (L.left link.old) (L.sent link.old) (C.left clock.old) (K.written sink.old)) (outside (L.left link.new) (L.sent link.new) (C.left clock.new) (K.written sink.new)) result }
     ensures complete { EndsWell meant (S.left source.old) (Rose (S.faults source.old) (S.faults source.new)) (Rose (K.faults sink.old) (K.faults sink.new)) (Rose (L.faults link.old) (L.faults link.new)) (Rose (C.faults clock.old) (C.faults clock.new)) result }
 
     ensures source_kept { (UsesScript meant → ⊥) → source.new ≡ source.old }
-    ensures sink_kept { (UsesScript meant → ⊥) → sink.new ≡ sink.old }
+    ensures sink_kept { (Prints meant → ⊥) → sink.new ≡ sink.old }
     ensures link_kept { (UsesLink meant → ⊥) → link.new ≡ link.old }
     ensures clock_kept { (UsesLink meant → ⊥) → clock.new ≡ clock.old }
-    ensures lanes { IsKept (L.lanes link.old) (L.lanes link.new) }
+    ensures lanes { (UsesTwins meant → ⊥) → IsKept (L.lanes link.old) (L.lanes link.new) }
     ensures source_fault { result ≡ SourceFault → Rose (S.faults source.old) (S.faults source.new) }
     ensures sink_fault { result ≡ SinkFault → Rose (K.faults sink.old) (K.faults sink.new) }
     ensures link_fault { result ≡ LinkFault → Rose (L.faults link.old) (L.faults link.new) }
@@ -128,6 +129,17 @@ fn run_meant<S: Source, K: Sink, L: Twin, C: Clock>(
     ensures clock_steady { C.faults clock.old ≤ C.faults clock.new }
 {
     match meant {
+        Meant::Router {
+            listen,
+            servers,
+            n,
+            workers,
+            tick_ms,
+            turns,
+        } => {
+            let pace = Pace { tick_ms, turns };
+            route_bound(alloc, listen, servers, n, workers, sink, link, clock, pace)
+        }
         Meant::Server {
             listen,
             router,
@@ -149,14 +161,14 @@ fn run_plain_words<S: Source, K: Sink, L: Link, C: Clock>(
     ensures refused { result ≡ BadWords → (m : Meaning) → Means (map (λ w. string_bytes w) words.now) m → IsPlain m → ⊥ }
     ensures only_refused { ((m : Meaning) → Means (map (λ w. string_bytes w) words.now) m → IsPlain m → ⊥) → IsRefusal result }
 
-    ensures ran { (m : Meaning) → Means (map (λ w. string_bytes w) words.now) m → IsPlain m → Runs m (S.left source.old) (S.left source.new)
+    ensures ran { (m : Meaning) → Means (map (λ w. string_bytes w) words.now) m → IsPlain m → Runs m (S.left source.old) (S.left source.new) (L.lanes link.old) (L.lanes link.new)
         (outside (L.left link.old) (L.sent link.old) (C.left clock.old) (K.written sink.old)) (outside (L.left link.new) (L.sent link.new) (C.left clock.new) (K.written sink.new)) result }
 
     ensures complete { (m : Meaning) → Means (map (λ w. string_bytes w) words.now) m → IsPlain m → EndsWell m (S.left source.old)
         (Rose (S.faults source.old) (S.faults source.new)) (Rose (K.faults sink.old) (K.faults sink.new)) (Rose (L.faults link.old) (L.faults link.new)) (Rose (C.faults clock.old) (C.faults clock.new)) result }
 
     ensures source_kept { ((m : Meaning) → Means (map (λ w. string_bytes w) words.now) m → IsPlain m → UsesScript m → ⊥) → source.new ≡ source.old }
-    ensures sink_kept { ((m : Meaning) → Means (map (λ w. string_bytes w) words.now) m → IsPlain m → UsesScript m → ⊥) → sink.new ≡ sink.old }
+    ensures sink_kept { ((m : Meaning) → Means (map (λ w. string_bytes w) words.now) m → IsPlain m → Prints m → ⊥) → sink.new ≡ sink.old }
     ensures link_kept { ((m : Meaning) → Means (map (λ w. string_bytes w) words.now) m → IsPlain m → UsesLink m → ⊥) → link.new ≡ link.old }
     ensures clock_kept { ((m : Meaning) → Means (map (λ w. string_bytes w) words.now) m → IsPlain m → UsesLink m → ⊥) → clock.new ≡ clock.old }
     ensures lanes { IsKept (L.lanes link.old) (L.lanes link.new) }
@@ -187,17 +199,17 @@ fn run_words<S: Source, K: Sink, L: Twin, C: Clock>(
     ensures refused { result ≡ BadWords → (m : Meaning) → Means (map (λ w. string_bytes w) words.now) m → ⊥ }
     ensures only_refused { ((m : Meaning) → Means (map (λ w. string_bytes w) words.now) m → ⊥) → IsRefusal result }
 
-    ensures ran { (m : Meaning) → Means (map (λ w. string_bytes w) words.now) m → Runs m (S.left source.old) (S.left source.new)
+    ensures ran { (m : Meaning) → Means (map (λ w. string_bytes w) words.now) m → Runs m (S.left source.old) (S.left source.new) (L.lanes link.old) (L.lanes link.new)
         (outside (L.left link.old) (L.sent link.old) (C.left clock.old) (K.written sink.old)) (outside (L.left link.new) (L.sent link.new) (C.left clock.new) (K.written sink.new)) result }
 
     ensures complete { (m : Meaning) → Means (map (λ w. string_bytes w) words.now) m → EndsWell m (S.left source.old)
         (Rose (S.faults source.old) (S.faults source.new)) (Rose (K.faults sink.old) (K.faults sink.new)) (Rose (L.faults link.old) (L.faults link.new)) (Rose (C.faults clock.old) (C.faults clock.new)) result }
 
     ensures source_kept { ((m : Meaning) → Means (map (λ w. string_bytes w) words.now) m → UsesScript m → ⊥) → source.new ≡ source.old }
-    ensures sink_kept { ((m : Meaning) → Means (map (λ w. string_bytes w) words.now) m → UsesScript m → ⊥) → sink.new ≡ sink.old }
+    ensures sink_kept { ((m : Meaning) → Means (map (λ w. string_bytes w) words.now) m → Prints m → ⊥) → sink.new ≡ sink.old }
     ensures link_kept { ((m : Meaning) → Means (map (λ w. string_bytes w) words.now) m → UsesLink m → ⊥) → link.new ≡ link.old }
     ensures clock_kept { ((m : Meaning) → Means (map (λ w. string_bytes w) words.now) m → UsesLink m → ⊥) → clock.new ≡ clock.old }
-    ensures lanes { IsKept (L.lanes link.old) (L.lanes link.new) }
+    ensures lanes { ((m : Meaning) → Means (map (λ w. string_bytes w) words.now) m → UsesTwins m → ⊥) → IsKept (L.lanes link.old) (L.lanes link.new) }
     ensures source_fault { result ≡ SourceFault → Rose (S.faults source.old) (S.faults source.new) }
     ensures sink_fault { result ≡ SinkFault → Rose (K.faults sink.old) (K.faults sink.new) }
     ensures link_fault { result ≡ LinkFault → Rose (L.faults link.old) (L.faults link.new) }
@@ -214,7 +226,8 @@ fn run_words<S: Source, K: Sink, L: Twin, C: Clock>(
     }
 }
 
-/// The commands that no thread is needed for: a client's calls and a replay, and the line on `errors` where it didn't go well.
+/// The commands that need no twin of the link and serve nobody: a client's calls and a replay, and the line on `errors` where it
+/// didn't go well.
 ///
 /// A client's link is bound to its address first. A failing `errors` changes no status.
 pub fn run_plain<S: Source, K: Sink, E: Sink, L: Link, C: Clock>(
@@ -226,12 +239,12 @@ pub fn run_plain<S: Source, K: Sink, E: Sink, L: Link, C: Clock>(
     link: &mut L,
     clock: &mut C,
 ) -> Status
-    // The words are refused where they mean nothing, or a server, and only there. Want of memory can come first.
+    // The words are refused where they mean nothing, a router or a server, and only there. Want of memory can come first.
     ensures refused { result ≡ BadWords → (m : Meaning) → Means (map (λ w. string_bytes w) words.now) m → IsPlain m → ⊥ }
     ensures only_refused { ((m : Meaning) → Means (map (λ w. string_bytes w) words.now) m → IsPlain m → ⊥) → IsRefusal result }
 
     // Else the command ran that they mean.
-    ensures ran { (m : Meaning) → Means (map (λ w. string_bytes w) words.now) m → IsPlain m → Runs m (S.left source.old) (S.left source.new)
+    ensures ran { (m : Meaning) → Means (map (λ w. string_bytes w) words.now) m → IsPlain m → Runs m (S.left source.old) (S.left source.new) (L.lanes link.old) (L.lanes link.new)
         (outside (L.left link.old) (L.sent link.old) (C.left clock.old) (K.written sink.old)) (outside (L.left link.new) (L.sent link.new) (C.left clock.new) (K.written sink.new)) result }
 
     // How a command ends of a script in its grammar, where nothing failed.
@@ -240,7 +253,7 @@ pub fn run_plain<S: Source, K: Sink, E: Sink, L: Link, C: Clock>(
 
     // What the command doesn't use, or where there is none, is left as it was.
     ensures source_kept { ((m : Meaning) → Means (map (λ w. string_bytes w) words.now) m → IsPlain m → UsesScript m → ⊥) → source.new ≡ source.old }
-    ensures sink_kept { ((m : Meaning) → Means (map (λ w. string_bytes w) words.now) m → IsPlain m → UsesScript m → ⊥) → sink.new ≡ sink.old }
+    ensures sink_kept { ((m : Meaning) → Means (map (λ w. string_bytes w) words.now) m → IsPlain m → Prints m → ⊥) → sink.new ≡ sink.old }
     ensures link_kept { ((m : Meaning) → Means (map (λ w. string_bytes w) words.now) m → IsPlain m → UsesLink m → ⊥) → link.new ≡ link.old }
     ensures clock_kept { ((m : Meaning) → Means (map (λ w. string_bytes w) words.now) m → IsPlain m → UsesLink m → ⊥) → clock.new ≡ clock.old }
     ensures lanes { IsKept (L.lanes link.old) (L.lanes link.new) }
@@ -265,7 +278,7 @@ pub fn run_plain<S: Source, K: Sink, E: Sink, L: Link, C: Clock>(
 
 /// All that the program does: what the words ask for, and the line on `errors` where it didn't go well.
 ///
-/// The link of a server or client is bound to its address first. A failing `errors` changes no status.
+/// The link of a router, server or client is bound to its address first. A failing `errors` changes no status.
 pub fn run<S: Source, K: Sink, E: Sink, L: Twin, C: Clock>(
     alloc: Global,
     words: &[String],
@@ -280,7 +293,7 @@ pub fn run<S: Source, K: Sink, E: Sink, L: Twin, C: Clock>(
     ensures only_refused { ((m : Meaning) → Means (map (λ w. string_bytes w) words.now) m → ⊥) → IsRefusal result }
 
     // Else the command ran that they mean.
-    ensures ran { (m : Meaning) → Means (map (λ w. string_bytes w) words.now) m → Runs m (S.left source.old) (S.left source.new)
+    ensures ran { (m : Meaning) → Means (map (λ w. string_bytes w) words.now) m → Runs m (S.left source.old) (S.left source.new) (L.lanes link.old) (L.lanes link.new)
         (outside (L.left link.old) (L.sent link.old) (C.left clock.old) (K.written sink.old)) (outside (L.left link.new) (L.sent link.new) (C.left clock.new) (K.written sink.new)) result }
 
     // How a command ends of a script in its grammar, where nothing failed.
@@ -289,10 +302,10 @@ pub fn run<S: Source, K: Sink, E: Sink, L: Twin, C: Clock>(
 
     // What the command doesn't use, or where there is none, is left as it was.
     ensures source_kept { ((m : Meaning) → Means (map (λ w. string_bytes w) words.now) m → UsesScript m → ⊥) → source.new ≡ source.old }
-    ensures sink_kept { ((m : Meaning) → Means (map (λ w. string_bytes w) words.now) m → UsesScript m → ⊥) → sink.new ≡ sink.old }
+    ensures sink_kept { ((m : Meaning) → Means (map (λ w. string_bytes w) words.now) m → Prints m → ⊥) → sink.new ≡ sink.old }
     ensures link_kept { ((m : Meaning) → Means (map (λ w. string_bytes w) words.now) m → UsesLink m → ⊥) → link.new ≡ link.old }
     ensures clock_kept { ((m : Meaning) → Means (map (λ w. string_bytes w) words.now) m → UsesLink m → ⊥) → clock.new ≡ clock.old }
-    ensures lanes { IsKept (L.lanes link.old) (L.lanes link.new) }
+    ensures lanes { ((m : Meaning) → Means (map (λ w. string_bytes w) words.now) m → UsesTwins m → ⊥) → IsKept (L.lanes link.old) (L.lanes link.new) }
 
     // The errors gain exactly the line of the status, or a front of it where they failed.
     ensures told { Reports (E.written errors.old) (E.written errors.new) (E.faults errors.old) (E.faults errors.new) (error_text result) }

@@ -4,10 +4,11 @@ use Rattle.std.specs.Io.KnownBytes.{Consumes}
 use Rattle.r2_link.proofs.Streams.{Consumes-nil, Consumes-trans}
 use Rattle.hc_replay.specs.declared.setup.Setup.{Setup}
 use Rattle.hc_replay.specs.declared.member.Member.{Member}
-use Rattle.hc_replay.specs.Member.{IsSound, begin}
+use Rattle.hc_replay.specs.Member.{begin}
+use Rattle.hc_replay.specs.Records.{IsRecorded}
 use Rattle.hc_replay.specs.Playback.{Advanced, StopsPiece}
 use Rattle.hc_replay.specs.Closing.{Closes, StopsEnd}
-use Rattle.hc_replay.proofs.Sound.{sound-begin}
+use Rattle.hc_replay.proofs.Recorded.{recorded-begin}
 use Rattle.hc_replay.proofs.Advance.{Advanced-none, Advanced-trans, StopsPiece-then}
 use Rattle.hc_replay.proofs.Replays.{done-of, unended-of, stopped-of, nothing-of}
 use Rattle.hc_replay.proofs.replaying.run_pieces.Goals as goal
@@ -23,11 +24,13 @@ reads-init g c =
         [],
         Consumes-nil (g.S.Source.left c.args.source.now),
         omega arith,
-        subst (λ (rest : List ℕ). Advanced s begin c.in-Ok.member [] rest 0 0 w w []) (sym c.new.ensures.items) at,
+        subst (λ (rest : List ℕ). Advanced s begin c.in-Ok.member [] rest 0 0 w w []) (sym c.new-2.ensures.items) at,
         omega arith,
       );
       setup = refl;
-      sound = subst (IsSound s) (sym c.in-Ok.ensures) (sound-begin s);
+      recorded =
+          subst (IsRecorded s c.in-Ok.member) (sym c.new.ensures)
+          (subst (λ (m : Member). IsRecorded s m []) (sym c.in-Ok.ensures) (recorded-begin s));
       chunk = refl;
       source_steady = omega arith;
       sink_steady = omega arith;
@@ -110,7 +113,7 @@ reads-preserved g c =
         omega (arith, long, size, far.4, c.in_default-feed.ensures.counted),
       );
       setup = c.feed.ensures.setup ∙ c.reads.invariant.setup;
-      sound = subst (λ (x : Setup). IsSound x next.member) (c.feed.ensures.setup ∙ c.reads.invariant.setup) c.in_default-feed.ensures.stays_sound;
+      recorded = subst (λ (x : Setup). IsRecorded x next.member next.records) (c.feed.ensures.setup ∙ c.reads.invariant.setup) c.in_default-feed.ensures.stays_recorded;
       chunk = c.read_some.ensures.size ∙ c.reads.invariant.chunk;
       source_steady = omega (arith, c.reads.invariant.source_steady, c.read_some.ensures.steady);
       sink_steady = omega (arith, c.reads.invariant.sink_steady, c.feed.ensures.steady);

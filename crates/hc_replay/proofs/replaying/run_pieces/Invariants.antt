@@ -1,7 +1,8 @@
 -- What was taken so far was taken as one piece, and with what may still be taken it is the limit.
 use Rattle.std.proofs.Common.{◌≡◌, ◌+◌, ◌≤◌, ◌^◌, ℕ, List, [], length}
 use Rattle.std.specs.Io.KnownBytes.{Consumes}
-use Rattle.hc_replay.specs.Member.{IsSound, begin}
+use Rattle.hc_replay.specs.Member.{begin}
+use Rattle.hc_replay.specs.Records.{IsRecorded}
 use Rattle.hc_replay.specs.Playback.{Advanced}
 use Rattle.hc_replay.proofs.replaying.run_pieces.Given as goal
 
@@ -11,7 +12,7 @@ invariant-reads g l = record {
       × Advanced l.fn.setup begin l.playback.member [] l.playback.partial.items 0 l.playback.lines (g.K.Sink.written l.initial.sink) (g.K.Sink.written l.sink) taken
       × (l.playback.lines ≤ length taken);
   setup : l.playback.setup ≡ l.fn.setup;
-  sound : IsSound l.fn.setup l.playback.member;
+  recorded : IsRecorded l.fn.setup l.playback.member l.playback.records;
   chunk : length l.chunk ≡ 4096;
   source_steady : g.S.Source.faults l.initial.source ≤ g.S.Source.faults l.source;
   sink_steady : g.K.Sink.faults l.initial.sink ≤ g.K.Sink.faults l.sink;

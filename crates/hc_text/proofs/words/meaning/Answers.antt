@@ -7,10 +7,12 @@ pub returns-clause-only : goal.returns-clause-only
 returns-clause-only c = λ m means.
     absurd (named_only _ m means (λ is. true≢false (sym (c.has_name.ensures.1 is) ∙ c.if-has_name.false))
     (λ is. true≢false (sym (c.has_name-2.ensures.1 is) ∙ c.if-has_name-2.false))
-    (λ is. true≢false (sym (c.has_name-3.ensures.1 is) ∙ c.if-has_name-3.false)))
+    (λ is. true≢false (sym (c.has_name-3.ensures.1 is) ∙ c.if-has_name-3.false))
+    (λ is. true≢false (sym (c.has_name-4.ensures.1 is) ∙ c.if-has_name-4.false)))
 
 pub returns-clause-outside : goal.returns-clause-outside
 returns-clause-outside c = λ outside m means.
     absurd (named_only _ m means (λ is. true≢false (sym (c.has_name.ensures.1 is) ∙ c.if-has_name.false))
     (λ is. true≢false (sym (c.has_name-2.ensures.1 is) ∙ c.if-has_name-2.false))
-    (λ is. true≢false (sym (c.has_name-3.ensures.1 is) ∙ c.if-has_name-3.false)))
+    (λ is. true≢false (sym (c.has_name-3.ensures.1 is) ∙ c.if-has_name-3.false))
+    (λ is. true≢false (sym (c.has_name-4.ensures.1 is) ∙ c.if-has_name-4.false)))

@@ -5,7 +5,7 @@ use Rattle.hc_loops.specs.Loop.{Serves}
 use Rattle.hc_loops.specs.Outside.{Outside, Passes}
 use Rattle.hc_tops.specs.Plain.{PlainSends}
 use Rattle.hc_tops.proofs.Bindings.{behind-ran, bound-loop}
-use Rattle.hc_tops.proofs.Weaker.{serves-from}
+use Rattle.hc_loops.proofs.Weaker.{serves-from}
 use Rattle.hc_tops.proofs.bound.serve_bound.Goals as goal
 
 pub returns-clause-ran : goal.returns-clause-ran

@@ -2,7 +2,7 @@
 use Rattle.std.proofs.Common.{◌≡◌, List}
 use Rattle.hc_tops.specs.Plain.{PlainSends}
 use Rattle.hc_tops.proofs.PlainTurns.{plain-sends}
-use Rattle.hc_tops.proofs.Weaker.{serves-nothing, serves-weaker}
+use Rattle.hc_loops.proofs.Weaker.{serves-nothing, serves-weaker}
 use Rattle.hc_tops.proofs.plain.serve_plain.Goals as goal
 
 pub returns-in_default-clause-ran : goal.returns-in_default-clause-ran

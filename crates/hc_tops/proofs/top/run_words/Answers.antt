@@ -10,5 +10,5 @@ run_meant-requires-after_bounds g c κs within = means_within (map (λ w. string
 
 pub returns-in-Err-Memory-clause-ran : goal.returns-in-Err-Memory-clause-ran
 returns-in-Err-Memory-clause-ran g c = λ m means.
-    runs-nothing m (g.S.Source.left c.args.source.now)
+    runs-nothing m (g.S.Source.left c.args.source.now) (g.L.Link.lanes c.args.link.now)
     (outside (g.L.Link.left c.args.link.now) (g.L.Link.sent c.args.link.now) (g.C.Clock.left c.args.clock.now) (g.K.Sink.written c.args.sink.now))

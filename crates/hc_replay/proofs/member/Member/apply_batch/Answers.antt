@@ -2,8 +2,8 @@
 use Rattle.std.proofs.Common.{◌≡◌, ◌+◌, ◌-◌, ◌<◌, ◌++◌, length, take, suc, sym, ap, ◌∙◌, arith, get_or, slice_get, Some, append-nil}
 use Rattle.std.proofs.lemmas.Option.{slice_get-get_or}
 use Rattle.hc_replay.specs.declared.member.Member.{Member}
-use Rattle.hc_replay.specs.declared.record.Stored.{Stored}
-use Rattle.hc_replay.specs.Durable.{blank_of, requests_of}
+use Rattle.hc_log.specs.declared.stored.Stored.{Stored}
+use Rattle.hc_log.specs.Log.{blank_of, requests_of}
 use Rattle.hc_replay.specs.Turn.{Sent, applied_all, batch_of}
 use Rattle.std.specs.Prelude.{All, ◌≤◌, List}
 use Rattle.std.proofs.Common.{subst}

@@ -1,8 +1,8 @@
 -- What is left of the batch, from the member as it is now, leads to the same member and the same replies.
 use Rattle.std.proofs.Common.{◌≡◌, ◌^◌, ◌+◌, ◌-◌, ◌≤◌, ◌++◌, length, take, drop}
 use Rattle.std.specs.Prelude.{All}
-use Rattle.hc_replay.specs.declared.record.Stored.{Stored}
-use Rattle.hc_replay.specs.Durable.{requests_of}
+use Rattle.hc_log.specs.declared.stored.Stored.{Stored}
+use Rattle.hc_log.specs.Log.{requests_of}
 use Rattle.hc_replay.specs.Operations.{IsReplayed}
 use Rattle.hc_replay.specs.Turn.{applied_all, batch_of}
 use Rattle.hc_replay.proofs.Answering.{CanAnswer}

@@ -1,13 +1,17 @@
 -- Each call that orders a request leaves one fewer to order; one that doesn't ends the ordering.
-use Rattle.std.proofs.Common.{◌≡◌, ◌+◌, ◌-◌, suc, sym, ◌∙◌, arith}
+use Rattle.std.proofs.Common.{◌≡◌, ◌+◌, ◌-◌, suc, sym, ◌∙◌, refl, arith}
 use Rattle.hc_replay.proofs.Ordering.{ordered_on, ordered_out, ordered-done}
+use Rattle.hc_replay.proofs.Orderly.{orderly_tried}
 use Rattle.hc_replay.proofs.member.Member.order_up_to.Goals as goal
 
 pub orders-preserved : goal.orders-preserved
 orders-preserved c =
     let left : c.args.room - c.orders.done ≡ suc (c.args.room - (c.orders.done + 1)) = omega arith in
     let step = ordered_on c.args.bound c.orders.self c.order_next.new.self c.in_ok-order_next.field-0 _ _ left c.in_ok-order_next.ensures c.if-not-branch.false in
-    record { short = step.1; same = sym step.0 ∙ c.orders.invariant.same }
+    record {
+      orderly = orderly_tried c.args.bound c.orders.self c.order_next.new.self c.in_ok-order_next.field-0 _ refl c.in_ok-order_next.ensures c.orders.invariant.orderly;
+      same = sym step ∙ c.orders.invariant.same;
+    }
 
 pub returns-after-orders : goal.returns-after-orders
 returns-after-orders c =

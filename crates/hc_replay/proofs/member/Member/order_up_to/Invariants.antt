@@ -1,10 +1,11 @@
 -- What is left to order, from the member as it is now, leads to the same end.
-use Rattle.std.proofs.Common.{◌≡◌, ◌^◌, ◌-◌, ◌≤◌, length}
+use Rattle.std.proofs.Common.{◌≡◌, ◌-◌}
+use Rattle.hc_replay.specs.Member.{IsOrderly}
 use Rattle.hc_replay.specs.Turn.{ordered}
 use Rattle.hc_replay.proofs.member.Member.order_up_to.Given as goal
 
 abbrev pub invariant-orders : goal.invariant-orders
 invariant-orders l = record {
-  short : length l.self.log ≤ 2 ^ 62;
+  orderly : IsOrderly l.self;
   same : ordered l.bound (l.room - l.done) l.self ≡ ordered l.bound l.room l.initial.self;
 }

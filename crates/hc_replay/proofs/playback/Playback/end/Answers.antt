@@ -22,3 +22,6 @@ returns-clause-closes g c =
     let p = c.args.self.now in
     let ran = subst (λ (text : List ℕ). Ran p.setup p.member c.run_text.new.member (text ∷ []) (g.K.Sink.written c.args.sink.now) (g.K.Sink.written c.run_text.new.sink)) c.deref.ensures.value c.in_default.ensures.ran in
     Closes-all p.setup p.member c.run_text.new.member p.partial.items (g.K.Sink.written c.args.sink.now) (g.K.Sink.written c.run_text.new.sink) (g.K.Sink.written c.close.new.sink) ran c.in_default-close.ensures.whole
+
+pub close-requires-clause-sound : goal.close-requires-clause-sound
+close-requires-clause-sound g c = let recorded = c.in_default.ensures.stays_recorded in recorded.sound

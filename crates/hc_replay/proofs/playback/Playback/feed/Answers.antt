@@ -12,7 +12,7 @@ bytes-init g c =
     record {
       advanced = Advanced-none p.setup p.member p.partial.items p.lines (g.K.Sink.written c.args.sink.now) c.requires.text;
       setup = refl;
-      sound = c.requires.sound;
+      recorded = c.requires.recorded;
       counted = omega arith;
       steady = omega arith;
     }
@@ -49,7 +49,7 @@ bytes-preserved g c =
     record {
       advanced = subst (λ (x : List ℕ). Advanced p.setup p.member next.member p.partial.items next.partial.items p.lines next.lines first behind x) (sym (take_more piece i 0 c.bytes-test.true)) both;
       setup = c.take_byte.ensures.setup ∙ c.bytes.invariant.setup;
-      sound = c.in_default.ensures.stays_sound;
+      recorded = c.in_default.ensures.stays_recorded;
       counted = omega (arith, c.in_default.ensures.counted, c.bytes.invariant.counted);
       steady = omega (arith, c.bytes.invariant.steady, c.take_byte.ensures.steady);
     }

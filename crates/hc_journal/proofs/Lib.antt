@@ -1,0 +1,4 @@
+pub mod RecordFields
+pub mod RecordLaws
+pub mod RecordLoop
+pub mod RecordWhole

@@ -1,0 +1,33 @@
+//! What holds of the bytes of records and of their reading.
+
+ghost use Rattle.hc_journal.specs.RecordLaws.{BytesBehindAreExtra, ExtraIsBehindARecord, NoBytesWantMemory, RecordsAreShort, SpellingIsRead, WhatIsReadIsSpelled};
+
+/// The reader takes the bytes of a record in its ranges.
+pub fn a_spelling_is_read()
+    ensures { SpellingIsRead }
+{}
+
+/// The reader takes nothing else: what it reads is what a record's bytes say.
+pub fn what_is_read_is_spelled()
+    ensures { WhatIsReadIsSpelled }
+{}
+
+/// Bytes behind a record are told as Extra.
+pub fn bytes_behind_are_extra()
+    ensures { BytesBehindAreExtra }
+{}
+
+/// Extra is told of nothing else.
+pub fn extra_is_behind_a_record()
+    ensures { ExtraIsBehindARecord }
+{}
+
+/// Each refusal of bytes is one of the other faults.
+pub fn no_bytes_want_memory()
+    ensures { NoBytesWantMemory }
+{}
+
+/// No record in its ranges is longer than its greatest number of bytes.
+pub fn records_are_short()
+    ensures { RecordsAreShort }
+{}

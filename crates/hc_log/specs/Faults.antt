@@ -1,0 +1,9 @@
+-- The faults of a durable state as a person reads them.
+use Rattle.std.specs.Prelude.{ℕ, List, codes}
+use Rattle.hc_log.specs.declared.follow_fault.FollowFault.{FollowFault}
+use Rattle.hc_log.specs.declared.follow_fault.FollowFault.TheVariants.{Unfit, Memory}
+
+-- why a state doesn't follow a record
+abbrev pub fault_text : FollowFault → List ℕ
+fault_text Unfit = codes "the record doesn't fit the state"
+fault_text Memory = codes "out of memory"

@@ -1,0 +1,20 @@
+-- What is counted of a log's entries, so that one more can be tested.
+use Rattle.std.specs.Prelude.{◌+◌, cond, List, length}
+use Rattle.hc_entry.specs.Entry.{is_request}
+use Rattle.hc_log.specs.declared.stored.Stored.{Stored}
+use Rattle.hc_log.specs.declared.totals.Totals.{Totals}
+use Rattle.hc_log.specs.Log.{last_term, requests_of, body_bytes_of}
+
+-- what is counted of a log
+abbrev pub totals_of : List Stored → Totals
+totals_of log = record { entries = length log; last_term = last_term log; requests = requests_of log; body_bytes = body_bytes_of log }
+
+-- with one more entry behind it
+abbrev pub totals_with : Totals → Stored → Totals
+totals_with t s =
+    record {
+      entries = t.entries + 1;
+      last_term = s.entry.term;
+      requests = t.requests + cond (is_request s.entry.kind) 1 0;
+      body_bytes = t.body_bytes + length s.body;
+    }

@@ -1,0 +1,162 @@
+//! The tests of a record that is to be the next one of a durable state.
+ghost use Rattle.std.specs.Prelude.{◌≡◌, ◌+◌, ◌<◌, ◌≤◌, ◌^◌, ◌↔◌, ◌&&◌, ◌++◌, All, IsTrue, IfSome};
+ghost use Rattle.hc_entry.specs.Entry.{is_request, NamesReplier};
+ghost use Rattle.hc_log.specs.Ranges.{FitsKind, IsStored};
+ghost use Rattle.hc_log.specs.Log.{stands_in, IsWithinLimits, MayFollow, FollowEach, IsLog};
+ghost use Rattle.hc_log.specs.Totals.{totals_of};
+ghost use Rattle.hc_log.specs.Durable.{KeepsVote, IsNext};
+
+use crate::entry_list::any_asks_as;
+use crate::limits::{BODY_BYTES_LIMIT, REQUEST_LIMIT};
+use crate::totals::Totals;
+use crate::{Record, Stored};
+use hc_entry::{
+    GREATEST_MEMBER, GREATEST_NUMBER, MOST_BODY, MOST_ENTRIES, NO_REPLIER, is_no_rid, is_request,
+};
+use r2_base::Kind;
+
+fn is_term(term: u64) -> bool
+    ensures { IsTrue result ↔ ((1 ≤ term) × (term ≤ 2 ^ 62)) }
+{
+    term >= 1 && term <= GREATEST_NUMBER
+}
+
+fn is_member(vote: Option<u8>) -> bool
+    ensures { IsTrue result ↔ IfSome vote (λ member. member ≤ 6) }
+{
+    match vote {
+        None => true,
+        Some(member) => member <= GREATEST_MEMBER,
+    }
+}
+
+fn names_replier(s: &Stored) -> bool
+    ensures { IsTrue result ↔ NamesReplier s.now.entry.kind s.now.entry.rid s.now.entry.replier }
+{
+    match s.entry.kind {
+        Kind::Blank => is_no_rid(&s.entry.rid) && s.entry.replier == NO_REPLIER,
+        Kind::Write | Kind::Read => s.entry.replier <= GREATEST_MEMBER,
+    }
+}
+
+fn fits_kind(s: &Stored) -> bool
+    ensures { IsTrue result ↔ FitsKind s.now.entry.kind s.now.body }
+{
+    match s.entry.kind {
+        Kind::Blank => s.body.is_empty(),
+        Kind::Write | Kind::Read => s.body.len() <= MOST_BODY,
+    }
+}
+
+/// Whether an entry and its body are within the ranges of their fields.
+fn is_stored(s: &Stored) -> bool
+    ensures { IsTrue result ↔ IsStored s.now }
+{
+    if !is_term(s.entry.term) {
+        return false;
+    }
+    if !names_replier(s) {
+        return false;
+    }
+    fits_kind(s)
+}
+
+fn is_within_limits(totals: Totals) -> bool
+    ensures { IsTrue result ↔ ((totals.entries ≤ 2 ^ 62) × (totals.requests ≤ 1048576) × (totals.body_bytes ≤ 1073741824)) }
+{
+    totals.entries <= GREATEST_NUMBER
+        && totals.requests <= REQUEST_LIMIT
+        && totals.body_bytes <= BODY_BYTES_LIMIT
+}
+
+/// Whether the request of an entry stands among these already.
+#[tactic(auto, using(crate::proofs::Logs::stands_in_both))]
+fn asks_again(kept: &[Stored], before: &[Stored], s: &Stored) -> bool
+    ensures { result ≡ (is_request s.now.entry.kind && stands_in s.now.entry.rid (kept.now ++ before.now)) }
+{
+    if !is_request(s.entry.kind) {
+        return false;
+    }
+    any_asks_as(kept, &s.entry.rid) || any_asks_as(before, &s.entry.rid)
+}
+
+/// Whether an entry may follow these, of which the totals are known.
+fn may_follow(kept: &[Stored], before: &[Stored], totals: Totals, s: &Stored) -> bool
+    requires totals { totals ≡ totals_of (kept.now ++ before.now) }
+    requires limits { IsWithinLimits (kept.now ++ before.now) }
+    ensures { IsTrue result ↔ MayFollow (kept.now ++ before.now) s.now }
+{
+    if !is_stored(s) {
+        return false;
+    }
+    if s.entry.term < totals.last_term {
+        return false;
+    }
+    if asks_again(kept, before, s) {
+        return false;
+    }
+    is_within_limits(totals.with(s))
+}
+
+/// Whether each of the entries may follow the kept ones and those before it.
+fn follow_each(kept: &[Stored], entries: &[Stored]) -> bool
+    requires { IsWithinLimits kept.now }
+    ensures { IsTrue result ↔ FollowEach kept.now entries.now }
+{
+    let mut totals = Totals::of(kept);
+    'entries: for (i, s) in entries.iter().enumerate() {
+        if !may_follow(kept, &entries[..i], totals, s) {
+            return false;
+        }
+        totals = totals.with(s);
+    }
+    true
+}
+
+fn have_terms_up_to(entries: &[Stored], term: u64) -> bool
+    ensures { IsTrue result ↔ All (λ s. s.entry.term ≤ term) entries.now }
+{
+    entries.iter().all(|s| s.entry.term <= term)
+}
+
+/// Whether a term and a vote may come behind others (Raft, section 5.2: one vote a term).
+fn continues(term: u64, vote: Option<u8>, r: &Record) -> bool
+    ensures { IsTrue result ↔ ((term ≤ r.now.term) × (term ≡ r.now.term → KeepsVote vote r.now.vote)) }
+{
+    if r.term < term {
+        return false;
+    }
+    if term < r.term {
+        return true;
+    }
+    match vote {
+        None => true,
+        Some(_) => r.vote == vote,
+    }
+}
+
+/// Whether the record may be the next one of the durable state of these parts.
+pub(crate) fn may_be_next(term: u64, vote: Option<u8>, log: &[Stored], r: &Record) -> bool
+    requires { IsLog log.now }
+    ensures { IsTrue result ↔ IsNext (record { term = term; vote = vote; log = log.now }) r.now }
+{
+    if !is_term(r.term) {
+        return false;
+    }
+    if !is_member(r.vote) {
+        return false;
+    }
+    if !continues(term, vote, r) {
+        return false;
+    }
+    if r.keep > log.len() as u64 {
+        return false;
+    }
+    if r.entries.len() > usize::from(MOST_ENTRIES) {
+        return false;
+    }
+    if !have_terms_up_to(r.entries.as_slice(), r.term) {
+        return false;
+    }
+    follow_each(&log[..r.keep as usize], r.entries.as_slice())
+}

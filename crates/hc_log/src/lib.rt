@@ -1,0 +1,21 @@
+//! A replica's durable state: term, vote and log, and the records of its changes.
+#![tactic(auto)]
+
+mod checks;
+mod durable;
+mod entry_list;
+mod follow_fault;
+pub mod laws;
+mod limits;
+mod log;
+mod record;
+mod stored;
+#[cfg(test)]
+mod tests;
+mod totals;
+
+pub use durable::Durable;
+pub use follow_fault::FollowFault;
+pub use log::Log;
+pub use record::Record;
+pub use stored::{Entries, Stored};

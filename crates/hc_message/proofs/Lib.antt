@@ -1,0 +1,10 @@
+pub mod Takes
+pub mod Numbers
+pub mod FieldLaws
+pub mod EntriesLoop
+pub mod Ordered
+pub mod Taken
+pub mod Again
+pub mod Sizes
+pub mod EntriesFit
+pub mod Whole

@@ -1,0 +1,33 @@
+//! What holds of the messages and of their reading.
+
+ghost use Rattle.hc_message.specs.Laws.{BytesBehindAreExtra, ExtraIsBehindAMessage, NoBytesWantMemory, SpellingIsRead, SpellingsAreShort, WhatIsReadIsSpelled};
+
+/// The reader takes a valid message's bytes.
+pub fn a_spelling_is_read()
+    ensures { SpellingIsRead }
+{}
+
+/// The reader takes nothing else: what it reads is what a valid message's bytes say.
+pub fn what_is_read_is_spelled()
+    ensures { WhatIsReadIsSpelled }
+{}
+
+/// Bytes behind a valid message are told as Extra; a body goes to the end, so none stand behind it.
+pub fn bytes_behind_are_extra()
+    ensures { BytesBehindAreExtra }
+{}
+
+/// Extra is told of nothing else.
+pub fn extra_is_behind_a_message()
+    ensures { ExtraIsBehindAMessage }
+{}
+
+/// Each refusal of bytes is one of the other faults.
+pub fn no_bytes_want_memory()
+    ensures { NoBytesWantMemory }
+{}
+
+/// No message is longer than its greatest number of bytes.
+pub fn spellings_are_short()
+    ensures { SpellingsAreShort }
+{}

@@ -1,0 +1,37 @@
+-- What a pool holds: a list of requests, the one put first in front.
+use Rattle.std.specs.Prelude.{◌≡◌, ◌≢◌, ◌≤◌, Bool, true, not, List, [], ◌∷◌, length, Option, Some, None, filter, All, AllPairs}
+use Rattle.std.specs.List.{find, list_any}
+use Rattle.r2_base.specs.declared.rid.Rid.{Rid}
+use Rattle.hc_entry.specs.Entry.{is_request, same_rid}
+use Rattle.hc_pool.specs.declared.request.Request.{Request}
+
+-- whether a request has this id
+abbrev pub has_rid : Rid → Request → Bool
+has_rid rid r = same_rid rid r.rid
+
+-- whether a request with this id waits
+unfoldable pub waits_in : Rid → List Request → Bool
+waits_in rid pool = list_any (has_rid rid) pool
+
+-- the request with this id
+unfoldable pub request_of : Rid → List Request → Option Request
+request_of rid pool = find (has_rid rid) pool
+
+-- the others, in their order
+unfoldable pub without : Rid → List Request → List Request
+without rid pool = filter (λ r. not (has_rid rid r)) pool
+
+-- the id of the request that was put first
+abbrev pub oldest_of : List Request → Option Rid
+oldest_of [] = None
+oldest_of (r ∷ later) = Some r.rid
+
+-- a request that a pool may hold
+pub record MayWait (r : Request) : Type 0 where
+  pub asks : is_request r.kind ≡ true
+  pub body : length r.body ≤ 61440
+
+-- what a pool may hold: each request may wait, and no id stands twice
+pub record IsPool (pool : List Request) : Type 0 where
+  pub requests : All MayWait pool
+  pub ids : AllPairs (λ a b. a.rid ≢ b.rid) pool

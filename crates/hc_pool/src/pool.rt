@@ -1,0 +1,177 @@
+ghost use Rattle.std.specs.Prelude.{◌≡◌, ◌≤◌, ◌<◌, ◌↔◌, ◌==◌, ◌++◌, ◌∷◌, [], false, true, length, position, MatchOption, is_some, option_copied, OnOk, OnErr, Err};
+ghost use Rattle.hc_entry.specs.Entry.{is_request};
+ghost use Rattle.hc_pool.specs.Pool.{has_rid, waits_in, request_of, without, oldest_of, IsPool};
+
+use crate::{PutFault, Request};
+use r2_base::{Bytes, Kind, NoMemory, Rid};
+use std::alloc::Global;
+use std::marker::Model;
+
+/// How many requests may wait that came from clients.
+const POOL_LIMIT: usize = 4_096;
+
+/// The requests that came and aren't ordered yet, the one put first in front (HovercRaft, on separating the replication of
+/// requests from their order). Each is a Write or a Read, its body has at most 61,440 bytes, and no request id stands twice.
+#[derive(Debug, Drop)]
+pub struct Pool {
+    requests: Vec<Request>,
+}
+
+impl Model for Pool {
+    ghost use Rattle.std.specs.Prelude.{List};
+    ghost use Rattle.hc_pool.specs.declared.request.Request.{Request};
+    ghost use Rattle.hc_pool.specs.Pool.{IsPool};
+
+    ghost Value = { List Request };
+
+    ghost view = { λ a. a.requests.items };
+
+    ghost invariant = { λ a. IsPool a.requests.items };
+}
+
+impl Pool {
+    /// No requests, with no memory taken.
+    pub fn new(alloc: Global) -> Pool
+        ensures { result ≡ [] }
+    {
+        Pool {
+            requests: Vec::new(alloc),
+        }
+    }
+
+    pub fn len(&self) -> usize
+        ensures count { result ≡ length self.now }
+        ensures holds { IsPool self.now }
+    {
+        self.requests.len()
+    }
+
+    pub fn is_empty(&self) -> bool
+        ensures { result ≡ (length self.now == 0) }
+    {
+        self.requests.is_empty()
+    }
+
+    /// The kind and the body of the request with this id.
+    #[tactic(auto, using(crate::proofs::Requests::found_request))]
+    pub fn get(&self, rid: &Rid) -> Option<(Kind, &Bytes)>
+        ensures request { MatchOption result (request_of rid.now self.now ≡ None) (λ p. request_of rid.now self.now ≡ Some (record { rid = rid.now; kind = p.0; body = p.1.now })) }
+        ensures waits { is_some result ≡ waits_in rid.now self.now }
+    {
+        match find_request(self.requests.as_slice(), rid) {
+            None => None,
+            Some(request) => Some((request.kind, &request.body)),
+        }
+    }
+
+    /// The id of the request that was put first.
+    pub fn oldest(&self) -> Option<Rid>
+        ensures { result ≡ oldest_of self.now }
+    {
+        let request = self.requests.first()?;
+        Some(request.rid)
+    }
+
+    /// Puts a client's request behind the others, if fewer than 4,096 wait.
+    pub fn put(&mut self, rid: Rid, kind: Kind, body: Bytes) -> Result<(), PutFault>
+        requires is_new { waits_in rid self.old ≡ false }
+        requires asks { is_request kind ≡ true }
+        requires body { length body ≤ 61440 }
+        ensures ok { OnOk result (self.new ≡ self.old ++ (record { rid = rid; kind = kind; body = body }) ∷ []) }
+        ensures err { OnErr result (self.new ≡ self.old) }
+        ensures full { (result ≡ Err PutFault.Full) ↔ (4096 ≤ length self.old) }
+    {
+        if self.requests.len() >= POOL_LIMIT {
+            return Err(PutFault::Full);
+        }
+        self.put_back(rid, kind, body)?;
+        Ok(())
+    }
+
+    /// Puts a request behind the others that was cut from the log, or that another member sent.
+    pub fn put_back(&mut self, rid: Rid, kind: Kind, body: Bytes) -> Result<(), NoMemory>
+        requires is_new { waits_in rid self.old ≡ false }
+        requires asks { is_request kind ≡ true }
+        requires body { length body ≤ 61440 }
+        ensures ok { OnOk result (self.new ≡ self.old ++ (record { rid = rid; kind = kind; body = body }) ∷ []) }
+        ensures err { OnErr result (self.new ≡ self.old) }
+    {
+        self.requests.push(Request { rid, kind, body })?;
+        Ok(())
+    }
+
+    /// Takes the request with this id out. The order of the others stays.
+    pub fn take(&mut self, rid: &Rid) -> Option<(Kind, Bytes)>
+        ensures taken { MatchOption result (request_of rid.now self.old ≡ None) (λ p. request_of rid.now self.old ≡ Some (record { rid = rid.now; kind = p.0; body = p.1 })) }
+        ensures others { self.new ≡ without rid.now self.old }
+    {
+        match place_of(self.requests.as_slice(), rid) {
+            None => None,
+            Some(place) => {
+                let Request { rid: _, kind, body } = self.requests.remove(place);
+                Some((kind, body))
+            }
+        }
+    }
+}
+
+#[tactic(auto, unfolding(crate::specs::Pool::request_of))]
+fn find_request<'a>(requests: &'a [Request], rid: &Rid) -> Option<&'a Request>
+    ensures { option_copied result ≡ request_of rid.now requests.now }
+{
+    requests.iter().find(|request| request.rid == *rid)
+}
+
+fn place_of(requests: &[Request], rid: &Rid) -> Option<usize>
+    ensures { result ≡ position (has_rid rid.now) requests.now }
+{
+    requests.iter().position(|request| request.rid == *rid)
+}
+
+#[cfg(test)]
+mod tests {
+    use super::*;
+    use r2_base::Addr;
+    use std::test::Fail;
+
+    fn rid(id: u16) -> Rid {
+        Rid {
+            id,
+            client: Addr {
+                ip: 0x0a00_0009,
+                port: 7_001,
+            },
+        }
+    }
+
+    #[test]
+    fn full_at_4096_and_the_others_keep_their_order(rt: HostRuntime) -> Result<(), Fail> {
+        let alloc = rt.alloc();
+        let mut pool = Pool::new(alloc);
+        for id in 0..4_097 {
+            let body = Bytes::from_vec(b"G".to_vec(alloc)?);
+            let new = rid(id);
+            if pool.get(&new).is_none() {
+                let put = pool.put(new, Kind::Read, body);
+                assert_eq!(rt; put.err(), (id == 4_096).then_some(PutFault::Full));
+            }
+        }
+        assert_eq!(rt; pool.len(), 4_096);
+        let late = rid(5_000);
+        if pool.get(&late).is_none() {
+            pool.put_back(late, Kind::Write, Bytes::new(alloc))?;
+        }
+        let (kind, body) = pool.take(&rid(1)).ok_or("waits")?;
+        assert_eq!(rt; (kind, body.as_slice()), (Kind::Read, b"G".as_slice()));
+        assert!(rt; pool.take(&rid(1)).is_none());
+        for want in [0, 2, 3] {
+            let oldest = pool.oldest().ok_or("waits")?;
+            assert_eq!(rt; oldest, rid(want));
+            assert!(rt; pool.take(&oldest).is_some());
+        }
+        let (kind, body) = pool.get(&late).ok_or("waits")?;
+        assert_eq!(rt; (kind, body.len()), (Kind::Write, 0));
+        assert_eq!(rt; (pool.len(), pool.is_empty()), (4_093, false));
+        Ok(())
+    }
+}

@@ -1,0 +1,4 @@
+pub mod Totals
+pub mod Routed
+pub mod Twins
+pub mod Routes

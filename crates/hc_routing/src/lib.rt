@@ -1,0 +1,12 @@
+//! The loop of a router: it runs a router between one twin of a link and a clock, and prints the totals.
+#![tactic(auto)]
+
+mod on_twin;
+mod party;
+mod routing;
+mod totals;
+
+pub use routing::serve_router;
+
+#[cfg(test)]
+mod tests;
