@@ -1,0 +1,149 @@
+"""Runs the programs of a case, over sockets of this machine where it has several."""
+import collections
+import contextlib
+import itertools
+import os
+import re
+import socket
+import subprocess
+import tempfile
+import time
+
+BUILT = os.path.join(os.path.dirname(os.path.dirname(os.path.abspath(__file__))), "crates", "r2p2_suite", "out", "r2p2_suite")
+PROGRAM = os.path.abspath(os.environ.get("R2P2_SUITE") or BUILT)
+SECONDS = 60  # for one case
+
+# How a run ended: its status, which is nothing where it was ended after so many seconds, and what it printed.
+Ended = collections.namedtuple("Ended", "run status output errors")
+
+
+def is_built():
+    return os.access(PROGRAM, os.X_OK)
+
+
+def runs_of(case):
+    return list(itertools.chain(case.servers, *case.clients))
+
+
+def names_in(case):
+    """The names in braces that stand for addresses in words of the case: {client}, {server}, and those of its programs and peers."""
+    runs = runs_of(case)
+    known = {b"{%s}" % each.encode() for each in ["server", "client"] + [each.name for each in runs + case.peers]}
+    return {name for run in runs for word in run.words for name in re.findall(rb"\{\w+\}", word)} & known
+
+
+def is_free(port):
+    with socket.socket(socket.AF_INET, socket.SOCK_DGRAM) as one:
+        try:
+            one.bind(("127.0.0.1", port))
+            return True
+        except OSError:
+            return False
+
+
+def free_addresses(count):
+    """So many addresses of this machine whose ports are free for UDP. A client's port stays free until it is started: the system gives
+    out no such ports by itself, and another run of this file looks for them at another place."""
+    ports = range(10_000 + os.getpid() % 1_000 * 20, 65_536)
+    return [b"127.0.0.1:%d" % port for port in itertools.islice(filter(is_free, ports), count)]
+
+
+def is_bound(port):
+    """Whether a socket of this machine is bound to a UDP port."""
+    with open("/proc/net/udp", encoding="ascii") as table:
+        return any(line.split()[1].endswith(f":{port:04X}") for line in table.readlines()[1:])
+
+
+def has_loopback():
+    """Whether a datagram comes from one socket of this machine to another, and the system tells which ports are bound."""
+    try:
+        with socket.socket(socket.AF_INET, socket.SOCK_DGRAM) as one, socket.socket(socket.AF_INET, socket.SOCK_DGRAM) as other:
+            one.bind(("127.0.0.1", 0))
+            one.settimeout(5)
+            other.sendto(b"?", one.getsockname())
+            return one.recv(1) == b"?" and is_bound(one.getsockname()[1])
+    except OSError:
+        return False
+
+
+class Running:
+    """A run of the program that was started. `addresses` are those that words name in braces."""
+
+    def __init__(self, run, addresses):
+        self.run = run
+        words = [re.sub(rb"\{\w+\}", lambda name: addresses.get(name[0], name[0]), word) for word in run.words]
+        place = words.index(b"--listen") + 1 if b"--listen" in words[:-1] else 0
+        port = re.fullmatch(rb"127\.0\.0\.1:(\d+)", words[place]) if place else None
+        self.port = int(port[1]) if port else None
+        with tempfile.TemporaryFile() as given:
+            given.write(run.input)
+            given.seek(0)
+            self.process = subprocess.Popen(
+                [os.fsencode(PROGRAM)] + words, stdin=given, stdout=subprocess.PIPE, stderr=subprocess.PIPE
+            )
+
+    def listens(self, end):
+        """Waits until the program has bound its port, where it has one, or ended."""
+        while self.port and self.process.poll() is None and not is_bound(self.port) and time.monotonic() < end:
+            time.sleep(0.002)
+
+    def spends_turns(self, end):
+        """Sends datagrams without bytes to the program's port, where it has one, until it ends."""
+        with socket.socket(socket.AF_INET, socket.SOCK_DGRAM) as outside:
+            while self.port and self.process.poll() is None and time.monotonic() < end:
+                for _ in range(50):
+                    outside.sendto(b"", ("127.0.0.1", self.port))
+                time.sleep(0.002)
+
+    def ends(self, end):
+        """How it ends."""
+        try:
+            output, errors = self.process.communicate(timeout=max(0.1, end - time.monotonic()))
+        except subprocess.TimeoutExpired:
+            return Ended(self.run, None, b"", b"")
+        return Ended(self.run, self.process.returncode, output, errors)
+
+    def kill(self):
+        if self.process.poll() is None:
+            self.process.kill()
+        self.process.communicate()
+
+
+def port_of(name, addresses):
+    """The port of the address that a name in braces stands for."""
+    return int(addresses[b"{%s}" % name.encode()].rpartition(b":")[2])
+
+
+def send_all(peer, addresses):
+    """Sends a peer's datagrams from its address."""
+    with socket.socket(socket.AF_INET, socket.SOCK_DGRAM) as outside:
+        outside.bind(("127.0.0.1", port_of(peer.name, addresses)))
+        for datagram in peer.datagrams:
+            outside.sendto(datagram, ("127.0.0.1", port_of(peer.server, addresses)))
+
+
+def run_case(case):
+    """Runs the programs of a case, and says how each ended."""
+    names = sorted(names_in(case))
+    addresses = dict(zip(names, free_addresses(len(names))))
+    end = time.monotonic() + SECONDS
+    with contextlib.ExitStack() as started:
+
+        def start(run):
+            running = Running(run, addresses)
+            started.callback(running.kill)
+            return running
+
+        ended = []
+        serving = [start(run) for run in case.servers]
+        for each in serving:
+            each.listens(end)
+        for peer in case.peers:
+            send_all(peer, addresses)
+        for line in case.clients:
+            calling = [start(run) for run in line]
+            ended += [each.ends(end) for each in calling]
+        for each in serving:
+            each.spends_turns(end)
+            ended.append(each.ends(end))
+    return ended
