@@ -1,12 +1,13 @@
 -- How many request ids were used.
 use Rattle.std.proofs.Common.{◌≡◌, ℕ, ◌+◌, ◌<◌, ◌≤◌, nat_le, nat_lt, true, false, Bool, if◌then◌else◌, is_some, List, [], ◌∷◌, length, Option, Some, None, refl, ap, arith}
 use Rattle.std.proofs.lemmas.Bool.{leb-false, leb-true}
+use Rattle.r2_base.specs.Limits.{id_limit, most_body}
 use Rattle.r2_base.specs.declared.event.Event.{Event}
 use Rattle.r2_base.specs.declared.event.Event.TheVariants.{Datagram as DatagramEvent, Tick, Quiet}
 use Rattle.r2_client.specs.declared.begin_fault.BeginFault.TheVariants.{Outstanding, TooLong, IdsUsed}
 use Rattle.r2_client.specs.declared.call_end.CallEnd.TheVariants.{TimedOut}
 use Rattle.r2_client.specs.declared.open_call.OpenCall.{OpenCall}
-use Rattle.r2_client.specs.Session.{Stepped, began, ended, most_asked, most_calls, refusal, sent_again, stepped, ticked, ticked_by, unchanged}
+use Rattle.r2_client.specs.Session.{Stepped, began, ended, refusal, sent_again, stepped, ticked, ticked_by, unchanged}
 use Rattle.r2_client.specs.State.{SessionState}
 use Rattle.r2_client.proofs.Outcomes.{branch, outcome}
 use Rattle.hc_loops.specs.Events.{event_of}
@@ -68,26 +69,26 @@ ids-of false false true e = refl
 ids-of false false false e = cc
 
 -- a call that may begin has an id, and one that can't for want of ids has none
-left-over : (s : SessionState) (body : List ℕ) → refusal s body ≡ None → s.next < most_calls
-left-over s body may = leb-false most_calls s.next (none-of (is_some s.open_call) (nat_lt most_asked (length body)) (nat_le most_calls s.next) may)
+left-over : (s : SessionState) (body : List ℕ) → refusal s body ≡ None → s.next < id_limit
+left-over s body may = leb-false id_limit s.next (none-of (is_some s.open_call) (nat_lt most_body (length body)) (nat_le id_limit s.next) may)
 
-used-up : (s : SessionState) (body : List ℕ) → refusal s body ≡ Some IdsUsed → most_calls ≤ s.next
-used-up s body no_id = leb-true most_calls s.next (ids-of (is_some s.open_call) (nat_lt most_asked (length body)) (nat_le most_calls s.next) no_id)
+used-up : (s : SessionState) (body : List ℕ) → refusal s body ≡ Some IdsUsed → id_limit ≤ s.next
+used-up s body no_id = leb-true id_limit s.next (ids-of (is_some s.open_call) (nat_lt most_body (length body)) (nat_le id_limit s.next) no_id)
 
-step-within : (t : Talk) (x : Step) → MayTake t x → t.session.next ≤ most_calls → (taken t x).next.session.next ≤ most_calls
+step-within : (t : Talk) (x : Step) → MayTake t x → t.session.next ≤ id_limit → (taken t x).next.session.next ≤ id_limit
 unfolding began
 step-within t (Asks policy body) may few = let e = left-over t.session body may.2 in omega (arith, e)
 step-within t (Hears item) may few = let e = event-uses-none t.session (event_of item) in omega (arith, e, few)
 step-within t (Tells moment) may few = let e = events-use-none t.session (due_at t.ticker moment) in omega (arith, e, few)
 
-within : (t : Talk) (xs : List Step) → AreInTurn t xs → t.session.next ≤ most_calls → (course t xs).next.session.next ≤ most_calls
+within : (t : Talk) (xs : List Step) → AreInTurn t xs → t.session.next ≤ id_limit → (course t xs).next.session.next ≤ id_limit
 unfolding course
 within t [] turns few = few
 within t (x ∷ xs) turns few = within (taken t x).next xs turns.1 (step-within t x turns.0 few)
 
 -- where the next call has no id, all were used
 pub all-used : (t u : Talk) (a b : Outside) (asked : List Asked) (room left : ℕ) (body : List ℕ) → t.session.next ≡ 0 → Completes asked room left t u a b
-    → refusal u.session body ≡ Some IdsUsed → length asked ≡ most_calls
+    → refusal u.session body ≡ Some IdsUsed → length asked ≡ id_limit
 all-used t u a b asked room left body fresh done no_id =
     let used = used-up u.session body no_id in
     let now = ap (λ (w : Talk). w.session.next) done.went.left in

@@ -1,9 +1,11 @@
 -- A client's run: what it took of its script and of the outside, what it sent and printed, and why it ended.
-use Rattle.std.specs.Prelude.{◌≡◌, ◌⊎◌, ℕ, ◌≤◌, ◌^◌, false, List, [], ◌∷◌, length, Option, Some, None}
+use Rattle.std.specs.Prelude.{◌≡◌, ◌⊎◌, ℕ, ◌≤◌, false, List, [], ◌∷◌, length, Option, Some, None}
 use Rattle.std.specs.Io.KnownBytes.{Consumes}
 use Rattle.r2_client.specs.declared.begin_fault.BeginFault.TheVariants.{IdsUsed as NoIds}
-use Rattle.r2_client.specs.Session.{most_calls, refusal}
+use Rattle.r2_base.specs.Limits.{id_limit}
+use Rattle.r2_client.specs.Session.{refusal}
 use Rattle.r2_client.specs.State.{new_session}
+use Rattle.r2_lines.specs.Limits.{most_taken}
 use Rattle.hc_status.specs.declared.status.Status.{Status}
 use Rattle.hc_status.specs.declared.status.Status.TheVariants.{Done, BadScript, Memory, SourceFault, SinkFault, LinkFault, ClockFault, TimedOut, IdsUsed, TurnsSpent}
 use Rattle.hc_text.specs.declared.policy.Policy.{Policy}
@@ -31,7 +33,7 @@ pub record RunsOut (policy : Policy) (asked : List Asked) (room : ℕ) (left : O
   pub call : Asked
   pub next : IsNext policy left taken asked line number
   pub asks : AsksFor policy line call
-  pub all : length asked ≡ most_calls
+  pub all : length asked ≡ id_limit
   pub made : Goes asked t old new (λ u steps. (u.over ≡ false) × (u.behind ≡ false) × (refusal u.session call.body ≡ Some NoIds) × (length (items_of steps) ≤ room))
 
 -- a call was stopped, and its line was taken
@@ -47,7 +49,7 @@ Ended policy asked room left taken t old new SourceFault = AreMade asked room t 
 Ended policy asked room left taken t old new IdsUsed = RunsOut policy asked room left taken t old new
 Ended policy asked room left taken t old new TurnsSpent =
     StopsIn policy asked room left taken t old new TurnsSpent
-    ⊎ (AreMade asked room t old new × IsPartial policy taken asked × (length taken ≡ 2 ^ 56))
+    ⊎ (AreMade asked room t old new × IsPartial policy taken asked × (length taken ≡ most_taken))
 Ended policy asked room left taken t old new Memory =
     StopsIn policy asked room left taken t old new Memory ⊎ (AreMade asked room t old new × HasLines policy left taken asked)
 Ended policy asked room left taken t old new TimedOut = StopsIn policy asked room left taken t old new TimedOut

@@ -1,9 +1,11 @@
 ghost use Rattle.std.specs.Prelude.{◌≡◌, ◌≤◌, ◌<◌, ℕ, List, [], ◌∷◌, Option, Some, None, length, IfErr, OnOk, false};
+ghost use Rattle.r2_base.specs.Limits.{most_body};
+ghost use Rattle.r2_header.specs.Policy.{replicated_read};
 ghost use Rattle.r2_link.specs.Faults.{Rose};
 ghost use Rattle.r2_link.specs.Told.{IsKept};
 ghost use Rattle.r2_client.specs.Session.{refusal};
 ghost use Rattle.r2_client.specs.declared.begin_fault.BeginFault.TheVariants.{IdsUsed};
-ghost use Rattle.hc_loops.specs.declared.ticker.Ticker.{Ticker as Ticks};
+ghost use Rattle.hc_loops.specs.declared.ticker.Ticker.{Ticker as TickerSpec};
 ghost use Rattle.hc_status.specs.declared.status.Status.TheVariants.{LinkFault, SinkFault, ClockFault};
 ghost use Rattle.hc_calling.specs.Outside.{outside};
 ghost use Rattle.hc_calling.specs.Talk.{Asked, Asks, IsOpen, talk};
@@ -24,14 +26,14 @@ fn begin_call<L: Link>(
     link: &mut L,
 ) -> Result<(), Status>
     requires none { session.old.open_call ≡ None }
-    requires policy { policy ≤ 3 }
-    requires short { length body.now ≤ 61440 }
+    requires policy { policy ≤ replicated_read }
+    requires short { length body.now ≤ most_body }
 
-    ensures went { OnOk result ((ticker : Ticks) (clock written : Option (List ℕ)) → Went (talk session.old ticker false) (talk session.new ticker false)
+    ensures went { OnOk result ((ticker : TickerSpec) (clock written : Option (List ℕ)) → Went (talk session.old ticker false) (talk session.new ticker false)
         (outside (L.left link.old) (L.sent link.old) clock written) (outside (L.left link.new) (L.sent link.new) clock written) (Asks policy body.now ∷ [])) }
     ensures opened { OnOk result (IsOpen session.new.open_call) }
 
-    ensures stops { IfErr result (λ status. (ticker : Ticks) (clock written : Option (List ℕ)) (room : ℕ) → StopsCall (record { policy = policy; body = body.now }) room (talk session.old ticker false)
+    ensures stops { IfErr result (λ status. (ticker : TickerSpec) (clock written : Option (List ℕ)) (room : ℕ) → StopsCall (record { policy = policy; body = body.now }) room (talk session.old ticker false)
         (outside (L.left link.old) (L.sent link.old) clock written) (outside (L.left link.new) (L.sent link.new) clock written) status) }
 
     ensures lanes { IsKept (L.lanes link.old) (L.lanes link.new) }
@@ -111,8 +113,8 @@ pub(crate) fn make_call<L: Link, K: Sink, C: Clock>(
     sink: &mut K,
 ) -> Result<(), Status>
     requires none { session.old.open_call ≡ None }
-    requires policy { policy ≤ 3 }
-    requires short { length body.now ≤ 61440 }
+    requires policy { policy ≤ replicated_read }
+    requires short { length body.now ≤ most_body }
     requires tick { 1 ≤ ticker.old.tick_ms }
 
     ensures done { OnOk result (Completes (record { policy = policy; body = body.now } ∷ []) room.old room.new (talk session.old ticker.old false) (talk session.new ticker.new false)

@@ -2,7 +2,7 @@ ghost use Rattle.std.specs.Prelude.{◌≡◌, ◌≤◌, ◌<◌, ℕ, List, []
 ghost use Rattle.r2_link.specs.Faults.{Rose};
 ghost use Rattle.r2_link.specs.Told.{IsKept};
 ghost use Rattle.r2_link.specs.declared.lane.Item.{Item};
-ghost use Rattle.hc_loops.specs.declared.ticker.Ticker.{Ticker as Ticks};
+ghost use Rattle.hc_loops.specs.declared.ticker.Ticker.{Ticker as TickerSpec};
 ghost use Rattle.hc_status.specs.declared.status.Status.TheVariants.{LinkFault, SinkFault, ClockFault};
 ghost use Rattle.hc_calling.specs.Outside.{outside};
 ghost use Rattle.hc_calling.specs.Talk.{Hears, IsOpen, Tells, talk};
@@ -29,12 +29,12 @@ pub(crate) fn hear_item<L: Link, K: Sink>(
 ) -> Result<bool, Status>
     requires { IsOpen session.old.open_call }
 
-    ensures went { IfOk result (λ over. (ticker : Ticks) (clock : Option (List ℕ)) → (item : Item) × Went (talk session.old ticker false) (talk session.new ticker true)
+    ensures went { IfOk result (λ over. (ticker : TickerSpec) (clock : Option (List ℕ)) → (item : Item) × Went (talk session.old ticker false) (talk session.new ticker true)
         (outside (L.left link.old) (L.sent link.old) clock (K.written sink.old)) (outside (L.left link.new) (L.sent link.new) clock (K.written sink.new)) (Hears item ∷ [])) }
     ensures ended { IfOk result (λ over. over ≡ true → session.new.open_call ≡ None) }
     ensures goes_on { IfOk result (λ over. over ≡ false → IsOpen session.new.open_call) }
 
-    ensures stops { IfErr result (λ status. (ticker : Ticks) (clock : Option (List ℕ)) (room : ℕ) → 0 < room → StopsTalk [] room (talk session.old ticker false)
+    ensures stops { IfErr result (λ status. (ticker : TickerSpec) (clock : Option (List ℕ)) (room : ℕ) → 0 < room → StopsTalk [] room (talk session.old ticker false)
         (outside (L.left link.old) (L.sent link.old) clock (K.written sink.old)) (outside (L.left link.new) (L.sent link.new) clock (K.written sink.new)) status) }
 
     ensures lanes { IsKept (L.lanes link.old) (L.lanes link.new) }
@@ -92,7 +92,7 @@ pub(crate) fn ask_clock<L: Link, K: Sink, C: Clock>(
     let Ok(moment) = clock.now() else {
         return Err(Status::ClockFault);
     };
-    if !ticker.is_due(moment) {
+    if !ticker.pass_tick(moment) {
         return Ok(());
     }
     let end = match make_step(alloc, session, link, &Event::Tick) {

@@ -1,5 +1,5 @@
 -- What reads as a record is that record's bytes, and the bytes of a record in range read as it.
-use Rattle.std.proofs.Common.{◌≡◌, ℕ, ◌+◌, ◌*◌, ◌≤◌, ◌⊎◌, inl, inr, Bool, true, false, cond, eqb, List, [], ◌∷◌, ◌++◌, length, Result, Ok, Err, refl, sym, ap, ◌∙◌, append_assoc, length-append, arith}
+use Rattle.std.proofs.Common.{◌≡◌, ℕ, ◌+◌, ◌*◌, ◌≤◌, inl, inr, Bool, true, false, cond, eqb, List, [], ◌∷◌, ◌++◌, length, Result, Ok, Err, refl, sym, ap, ◌∙◌, append_assoc, length-append, arith}
 use Rattle.std.specs.List.{flat_map, AllByRecursion}
 use Rattle.std.proofs.lemmas.Bool.{eqb-true}
 use Rattle.std.proofs.lemmas.List.{append-nil}
@@ -10,39 +10,35 @@ use Rattle.r2_base.proofs.NumberBytes.{length-u16_bytes, length-u64_bytes}
 use Rattle.hc_message.specs.declared.field_fault.FieldFault.{FieldFault}
 use Rattle.hc_message.specs.declared.field_fault.FieldFault.TheVariants as field
 use Rattle.hc_message.proofs.Takes.{AreBytes-behind}
+use Rattle.hc_message.proofs.Taken.{chosen}
 use Rattle.hc_message.proofs.Sizes.{length-entry_bytes}
 use Rattle.hc_log.specs.declared.record.Record.{Record}
 use Rattle.hc_log.specs.declared.stored.Stored.{Stored}
 use Rattle.hc_log.specs.Ranges.{IsInRange, IsStored}
 use Rattle.hc_journal.specs.declared.record_fault.RecordFault.TheVariants.{Version, Extra, Memory}
-use Rattle.hc_journal.specs.Record.{front_bytes, record_bytes, stored_bytes, version, vote_number}
-use Rattle.hc_journal.specs.RecordLaws.{BytesBehindAreExtra, ExtraIsBehindARecord, FitsFields, NoBytesWantMemory, RecordsAreShort, SpellingIsRead, WhatIsReadIsSpelled}
-use Rattle.hc_journal.specs.RecordReading.{ended, fields_at, record_of}
+use Rattle.hc_journal.specs.Record.{head_bytes, record_bytes, stored_bytes, record_version_1, vote_number}
+use Rattle.hc_journal.specs.RecordLaws.{BytesBehindAreExtra, ExtraIsBehindARecord, FitsRecord, NoBytesWantMemory, RecordsAreShort, SpellingIsRead, WhatIsReadIsSpelled}
+use Rattle.hc_journal.specs.RecordReading.{ended, front_fields, decode_record}
 use Rattle.hc_journal.proofs.RecordFields.{FitsKind-most, fields_again, fields_take}
 
 -- a record that came to its end
-ended_ok : (read : Result (Record × List ℕ) FieldFault) (r : Record) → ended read ≡ Ok r → read ≡ Ok (r, [])
+pub ended_ok : (read : Result (Record × List ℕ) FieldFault) (r : Record) → ended read ≡ Ok r → read ≡ Ok (r, [])
 ended_ok (Ok (n, [])) r e = cc
 ended_ok (Ok (n, b ∷ rest)) r e = absurd cc
 ended_ok (Err field.Short) r e = absurd cc
 ended_ok (Err field.Range) r e = absurd cc
 
--- which way a test went
-chosen : {A : Type 0} (b : Bool) (x y z : A) → cond b x y ≡ z → ((b ≡ true) × (x ≡ z)) ⊎ ((b ≡ false) × (y ≡ z))
-chosen true x y z e = inl (refl, e)
-chosen false x y z e = inr (refl, e)
-
--- the version that is read, and what stands behind it
-versioned : (v : ℕ) (bytes : List ℕ) (r : Record) → cond (eqb v version) (ended (fields_at bytes)) (Err Version) ≡ Ok r → (v ≡ version) × (fields_at bytes ≡ Ok (r, []))
+-- the version that is read, and what stands after it
+versioned : (v : ℕ) (bytes : List ℕ) (r : Record) → cond (eqb v record_version_1) (ended (front_fields bytes)) (Err Version) ≡ Ok r → (v ≡ record_version_1) × (front_fields bytes ≡ Ok (r, []))
 versioned v bytes r e =
-    elim (chosen (eqb v version) (ended (fields_at bytes)) (Err Version) (Ok r) e) [
-      | inl is ↦ (eqb-true v version is.0, ended_ok (fields_at bytes) r is.1)
+    elim (chosen (eqb v record_version_1) (ended (front_fields bytes)) (Err Version) (Ok r) e) [
+      | inl is ↦ (eqb-true v record_version_1 is.0, ended_ok (front_fields bytes) r is.1)
       | inr other ↦ absurd cc
     ]
 
 -- what reads as a record is that record's bytes
 pub what_is_read_is_spelled : WhatIsReadIsSpelled
-unfolding record_of
+unfolding decode_record
 what_is_read_is_spelled r [] are e = absurd cc
 what_is_read_is_spelled r (v ∷ bytes) are e =
     let is = versioned v bytes r e in
@@ -56,8 +52,8 @@ what_is_read_is_spelled r (v ∷ bytes) are e =
     }
 
 -- the bytes of a record in range, and what stands behind them
-reads : (r : Record) (rest : List ℕ) → FitsFields r → IsInRange r → record_of (record_bytes r ++ rest) ≡ ended (Ok (r, rest))
-unfolding record_of record_bytes front_bytes
+reads : (r : Record) (rest : List ℕ) → FitsRecord r → IsInRange r → decode_record (record_bytes r ++ rest) ≡ ended (Ok (r, rest))
+unfolding decode_record record_bytes head_bytes
 reads r rest fits is =
     let regrouped : (((u64_bytes r.term ++ vote_number r.vote ∷ u64_bytes r.keep) ++ length r.entries ∷ []) ++ flat_map stored_bytes r.entries) ++ rest ≡ u64_bytes r.term ++ (vote_number r.vote ∷ (u64_bytes r.keep ++ (length r.entries ∷ (flat_map stored_bytes r.entries ++ rest)))) = regroup (u64_bytes r.term) (vote_number r.vote ∷ u64_bytes r.keep) (length r.entries) (flat_map stored_bytes r.entries) rest in
     rw (regrouped, fields_again r rest is fits) refl
@@ -67,7 +63,7 @@ reads r rest fits is =
 
 pub spelling_is_read : SpellingIsRead
 spelling_is_read r bytes fits spells =
-    ap record_of (spells.same ∙ sym (append-nil (record_bytes r))) ∙ reads r [] fits spells.in_range
+    ap decode_record (spells.same ∙ sym (append-nil (record_bytes r))) ∙ reads r [] fits spells.in_range
 
 pub bytes_behind_are_extra : BytesBehindAreExtra
 bytes_behind_are_extra r b rest fits is = reads r (b ∷ rest) fits is
@@ -85,18 +81,18 @@ ended_extra (Ok (r, b ∷ rest)) e = record { front = r; byte = b; rest = rest; 
 ended_extra (Err field.Short) e = absurd cc
 ended_extra (Err field.Range) e = absurd cc
 
-version_extra : (v : ℕ) (read : Result (Record × List ℕ) FieldFault) → cond (eqb v version) (ended read) (Err Version) ≡ Err Extra → (v ≡ version) × IsBehind read
+version_extra : (v : ℕ) (read : Result (Record × List ℕ) FieldFault) → cond (eqb v record_version_1) (ended read) (Err Version) ≡ Err Extra → (v ≡ record_version_1) × IsBehind read
 version_extra v read e =
-    elim (chosen (eqb v version) (ended read) (Err Version) (Err Extra) e) [
-      | inl is ↦ (eqb-true v version is.0, ended_extra read is.1)
+    elim (chosen (eqb v record_version_1) (ended read) (Err Version) (Err Extra) e) [
+      | inl is ↦ (eqb-true v record_version_1 is.0, ended_extra read is.1)
       | inr other ↦ absurd cc
     ]
 
 pub extra_is_behind_a_record : ExtraIsBehindARecord
-unfolding record_of
+unfolding decode_record
 extra_is_behind_a_record [] are e = absurd cc
 extra_is_behind_a_record (v ∷ bytes) are e =
-    let is = version_extra v (fields_at bytes) e in
+    let is = version_extra v (front_fields bytes) e in
     let behind = is.1 in
     let read = fields_take bytes (behind.front, behind.byte ∷ behind.rest) (AreBytes-behind v bytes are) behind.is_read in
     record {
@@ -120,9 +116,9 @@ version_memory true read e = ended_memory read e
 version_memory false read e = cc
 
 pub no_bytes_want_memory : NoBytesWantMemory
-unfolding record_of
+unfolding decode_record
 no_bytes_want_memory [] e = cc
-no_bytes_want_memory (v ∷ bytes) e = version_memory (eqb v version) (fields_at bytes) e
+no_bytes_want_memory (v ∷ bytes) e = version_memory (eqb v record_version_1) (front_fields bytes) e
 
 -- how many bytes a record has
 length-stored_bytes : (s : Stored) → IsStored s → length (stored_bytes s) ≤ 61460
@@ -138,7 +134,7 @@ length-entries (s ∷ ss) are =
     omega (arith, joined, length-stored_bytes s are.0, length-entries ss are.1)
 
 pub records_are_short : RecordsAreShort
-unfolding record_bytes front_bytes
+unfolding record_bytes head_bytes
 records_are_short r is =
     let count = is.count in
     let behind = length-entries r.entries (recursion_from_All IsStored r.entries is.entries) in

@@ -1,7 +1,6 @@
 -- What contracts see of the journal in memory.
-use Rattle.std.specs.Prelude.{ℕ, List, Option, Result, Ok, Err}
+use Rattle.std.specs.Prelude.{Bool, true, false, ℕ, List, Option, Result, Ok, Err}
 use Rattle.hc_log.specs.declared.record.Record.{Record}
-use Rattle.r2_link.specs.Faults.{counted}
 use Rattle.hc_journal.specs.declared.journal.First.{First}
 use Rattle.hc_journal.specs.declared.journal.JournalFault.{JournalFault}
 use Rattle.hc_journal.specs.declared.journal.JournalFault.TheVariants.{Disk, Memory, Ended}
@@ -15,9 +14,9 @@ pub record JournalState : Type 0 where
   pub fails : List ℕ
   pub faults : ℕ
 
--- how often it has failed behind a call
-abbrev pub faults_behind : Result (Unit {0}) JournalFault → ℕ → ℕ
-faults_behind (Err Disk) n = counted n
-faults_behind (Err Memory) n = n
-faults_behind (Err (Ended cause)) n = n
-faults_behind (Ok done) n = n
+-- whether an append failed by the disk
+abbrev pub is_disk_fault : Result (Unit {0}) JournalFault → Bool
+is_disk_fault (Err Disk) = true
+is_disk_fault (Err Memory) = false
+is_disk_fault (Err (Ended cause)) = false
+is_disk_fault (Ok done) = false

@@ -1,5 +1,5 @@
 -- The faults of a record's bytes, and what a person reads of them.
-use Rattle.std.specs.Prelude.{ℕ, List, codes}
+use Rattle.std.specs.Prelude.{ℕ, Bool, true, false, List, codes}
 use Rattle.hc_message.specs.declared.field_fault.FieldFault.{FieldFault}
 use Rattle.hc_message.specs.declared.field_fault.FieldFault.TheVariants as field
 use Rattle.hc_journal.specs.declared.record_fault.RecordFault.{RecordFault}
@@ -9,6 +9,14 @@ use Rattle.hc_journal.specs.declared.record_fault.RecordFault.TheVariants.{Versi
 abbrev pub record_fault_of : FieldFault → RecordFault
 record_fault_of field.Short = Short
 record_fault_of field.Range = Range
+
+-- whether a fault is a want of memory
+abbrev pub is_memory : RecordFault → Bool
+is_memory Version = false
+is_memory Short = false
+is_memory Range = false
+is_memory Extra = false
+is_memory Memory = true
 
 -- why bytes aren't a record
 abbrev pub record_fault_text : RecordFault → List ℕ

@@ -42,7 +42,7 @@ pub trait Journal: Drop {
     /// How often the journal has failed.
     ghost faults: { Self → ℕ };
 
-    /// Stores a record behind the others, which an `Ok` acknowledges.
+    /// Stores a record after the others, which an `Ok` acknowledges.
     ///
     /// A failed call ends the journal: from then on each call answers the first cause, until the journal is recovered. The
     /// record of the failed call may or may not be found then.

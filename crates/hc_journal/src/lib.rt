@@ -4,6 +4,7 @@
 mod journal;
 mod mem_journal;
 mod record_fault;
+mod record_head;
 pub mod record_laws;
 mod record_reading;
 mod record_writing;

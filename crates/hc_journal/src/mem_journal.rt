@@ -1,5 +1,5 @@
 ghost use Rattle.std.specs.Prelude.{◌≡◌, ◌+◌, ◌≤◌, ◌↔◌, ◌++◌, ◌∷◌, [], Some, None, Contains, IsTrue, Err, OnOk, OnErr};
-ghost use Rattle.r2_link.specs.Faults.{Rose, counted};
+ghost use Rattle.r2_link.specs.Faults.{Rose, counted, counted_where};
 ghost use Rattle.r2_link.specs.Told.{IsKept, Gains};
 ghost use Rattle.hc_log.specs.Durable.{IsHistory};
 ghost use Rattle.hc_log.specs.Ranges.{IsInRange};
@@ -8,6 +8,7 @@ ghost use Rattle.hc_journal.specs.Journal.{FitsTold, EndsAs};
 use crate::{First, Journal, JournalFault};
 use hc_log::Record;
 use r2_base::{Duplicate, Listed, NoMemory, Numbers};
+use r2_link::is_named;
 use std::alloc::Global;
 use std::marker::Model;
 
@@ -63,7 +64,7 @@ impl MemJournal {
 }
 
 impl Journal for MemJournal {
-    ghost use Rattle.hc_journal.specs.MemJournal.{faults_behind};
+    ghost use Rattle.hc_journal.specs.MemJournal.{is_disk_fault};
 
     ghost records = { λ j. Some j.records };
 
@@ -83,7 +84,7 @@ impl Journal for MemJournal {
         ensures exact { (result ≡ Err JournalFault.Disk) ↔ ((self.old.ended ≡ None) × Contains self.old.fails (self.old.calls + 1)) }
         ensures calls { self.new.calls ≡ counted self.old.calls }
         ensures fails { self.new.fails ≡ self.old.fails }
-        ensures faults { self.new.faults ≡ faults_behind result self.old.faults }
+        ensures faults { self.new.faults ≡ counted_where (is_disk_fault result) self.old.faults }
     {
         let is_to_fail = is_named(self.fails.as_slice(), self.calls);
         self.calls = self.calls.saturating_add(1);
@@ -102,17 +103,6 @@ impl Journal for MemJournal {
                 Err(JournalFault::Memory)
             }
         }
-    }
-}
-
-/// Whether the call behind `calls` earlier ones is among those that are to fail.
-fn is_named(fails: &[u64], calls: u64) -> bool
-    ensures { IsTrue result ↔ Contains fails.now (calls + 1) }
-{
-    // A number behind the last `u64` is in no list of them.
-    match calls.checked_add(1) {
-        Some(number) => fails.contains(&number),
-        None => false,
     }
 }
 
@@ -187,6 +177,23 @@ mod tests {
         assert_eq!(rt; journal.records().as_slice(), [first].as_slice());
         let text = format!(in alloc; "{ended}")?;
         assert_eq!(rt; text.as_str(), "the journal has ended: the disk failed");
+        Ok(())
+    }
+
+    #[test]
+    fn a_thousand_records_are_kept(rt: HostRuntime) -> Result<(), Fail> {
+        let alloc = rt.alloc();
+        let mut journal = MemJournal::new(alloc, Numbers::new(alloc));
+        for term in 1..1_001 {
+            let record = Record {
+                term,
+                vote: None,
+                keep: 0,
+                entries: Entries::new(alloc),
+            };
+            assert_eq!(rt; store(&mut journal, alloc, &record)?, Ok(()));
+        }
+        assert_eq!(rt; journal.records().len(), 1_000);
         Ok(())
     }
 }

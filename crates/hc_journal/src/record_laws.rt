@@ -1,6 +1,6 @@
 //! What holds of the bytes of records and of their reading.
 
-ghost use Rattle.hc_journal.specs.RecordLaws.{BytesBehindAreExtra, ExtraIsBehindARecord, NoBytesWantMemory, RecordsAreShort, SpellingIsRead, WhatIsReadIsSpelled};
+ghost use Rattle.hc_journal.specs.RecordLaws.{BytesBehindAreExtra, ExtraIsBehindARecord, NoBytesWantMemory, PrefixesAreShort, RangeStays, RecordsAreShort, SpellingIsRead, VersionIsTheFirstByte, WhatIsReadIsSpelled};
 
 /// The reader takes the bytes of a record in its ranges.
 pub fn a_spelling_is_read()
@@ -12,7 +12,7 @@ pub fn what_is_read_is_spelled()
     ensures { WhatIsReadIsSpelled }
 {}
 
-/// Bytes behind a record are told as Extra.
+/// Bytes after a record are told as Extra.
 pub fn bytes_behind_are_extra()
     ensures { BytesBehindAreExtra }
 {}
@@ -30,4 +30,19 @@ pub fn no_bytes_want_memory()
 /// No record in its ranges is longer than its greatest number of bytes.
 pub fn records_are_short()
     ensures { RecordsAreShort }
+{}
+
+/// The fault is Version exactly where the first byte isn't 1.
+pub fn version_is_the_first_byte()
+    ensures { VersionIsTheFirstByte }
+{}
+
+/// A record that is cut short is told as Short, wherever it is cut.
+pub fn prefixes_are_short()
+    ensures { PrefixesAreShort }
+{}
+
+/// What is out of its range stays so, whatever bytes come after it.
+pub fn range_stays()
+    ensures { RangeStays }
 {}

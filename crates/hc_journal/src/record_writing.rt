@@ -1,17 +1,19 @@
 ghost use Rattle.std.specs.Prelude.{◌≡◌, ◌≤◌, ◌++◌, All, IfOk, OnOk, Ok, length};
 ghost use Rattle.std.specs.List.{flat_map};
-ghost use Rattle.hc_message.specs.Entry.{FitsRid};
+ghost use Rattle.r2_base.specs.Limits.{most_body, most_entries};
+ghost use Rattle.r2_base.specs.Names.{FitsRid};
 ghost use Rattle.hc_log.specs.Ranges.{IsInRange};
-ghost use Rattle.hc_journal.specs.Record.{SpellsRecord, front_bytes, record_bytes, stored_bytes, vote_number};
-ghost use Rattle.hc_journal.specs.RecordReading.{record_of};
+ghost use Rattle.hc_journal.specs.Record.{SpellsRecord, head_bytes, record_bytes, stored_bytes, vote_number};
+ghost use Rattle.hc_journal.specs.RecordLaws.{most_record_bytes};
+ghost use Rattle.hc_journal.specs.RecordReading.{decode_record};
 
 use hc_log::{Record, Stored};
-use hc_message::fields::entry_bytes;
+use hc_message::fields::push_entry;
 use r2_base::{Bytes, NoMemory, push_u16, push_u64};
 use std::alloc::Global;
 
-/// The version of a record's layout.
-pub(crate) const VERSION: u8 = 1;
+/// The version of the layout with narrow entries.
+pub(crate) const RECORD_VERSION_1: u8 = 1;
 
 /// What stands in the place of the vote where there is none.
 pub(crate) const NO_VOTE: u8 = 255;
@@ -22,11 +24,11 @@ pub fn record_bytes(alloc: Global, r: &Record) -> Result<Bytes, NoMemory>
     requires { IsInRange r.now }
     ensures written { IfOk result (λ bytes. bytes ≡ record_bytes r.now) }
     ensures spelled { IfOk result (SpellsRecord r.now) }
-    ensures read_back { IfOk result (λ bytes. record_of bytes ≡ Ok r.now) }
-    ensures short { IfOk result (λ bytes. length bytes ≤ 3933459) }
+    ensures read_back { IfOk result (λ bytes. decode_record bytes ≡ Ok r.now) }
+    ensures short { IfOk result (λ bytes. length bytes ≤ most_record_bytes) }
 {
     let mut out = Vec::new(alloc);
-    push_front(&mut out, r)?;
+    push_head(&mut out, r)?;
     push_entries(&mut out, r.entries.as_slice())?;
     Ok(Bytes::from_vec(out))
 }
@@ -38,13 +40,13 @@ fn vote_number(vote: Option<u8>) -> u8
     vote.unwrap_or(NO_VOTE)
 }
 
-/// Appends what stands in front of the entries.
-#[tactic(auto, unfolding(crate::specs::Record::front_bytes), using(std::proofs::Common::append_assoc))]
-fn push_front(out: &mut Vec<u8>, r: &Record) -> Result<(), NoMemory>
-    requires { length r.now.entries ≤ 64 }
-    ensures { OnOk result (out.new.items ≡ out.old.items ++ front_bytes r.now) }
+/// Appends what stands before the entries.
+#[tactic(auto, unfolding(crate::specs::Record::head_bytes), using(std::proofs::Common::append_assoc))]
+fn push_head(out: &mut Vec<u8>, r: &Record) -> Result<(), NoMemory>
+    requires { length r.now.entries ≤ most_entries }
+    ensures { OnOk result (out.new.items ≡ out.old.items ++ head_bytes r.now) }
 {
-    out.push(VERSION)?;
+    out.push(RECORD_VERSION_1)?;
     push_u64(out, r.term)?;
     out.push(vote_number(r.vote))?;
     push_u64(out, r.keep)?;
@@ -54,7 +56,7 @@ fn push_front(out: &mut Vec<u8>, r: &Record) -> Result<(), NoMemory>
 
 /// Appends each entry with its body.
 fn push_entries(out: &mut Vec<u8>, entries: &[Stored]) -> Result<(), NoMemory>
-    requires { All (λ s. length s.body ≤ 61440) entries.now }
+    requires { All (λ s. length s.body ≤ most_body) entries.now }
     ensures written { OnOk result (out.new.items ≡ out.old.items ++ flat_map stored_bytes entries.now) }
     ensures fits { OnOk result (All (λ s. FitsRid s.entry.rid) entries.now) }
 {
@@ -67,11 +69,11 @@ fn push_entries(out: &mut Vec<u8>, entries: &[Stored]) -> Result<(), NoMemory>
 /// Appends an entry, the length of its body, and the body.
 #[tactic(auto, unfolding(crate::specs::Record::stored_bytes), using(std::proofs::Common::append_assoc))]
 fn push_stored(out: &mut Vec<u8>, stored: &Stored) -> Result<(), NoMemory>
-    requires { length stored.now.body ≤ 61440 }
+    requires { length stored.now.body ≤ most_body }
     ensures written { OnOk result (out.new.items ≡ out.old.items ++ stored_bytes stored.now) }
     ensures fits { OnOk result (FitsRid stored.now.entry.rid) }
 {
-    out.extend_from_slice(&entry_bytes(&stored.entry))?;
+    push_entry(out, &stored.entry)?;
     push_u16(out, stored.body.len() as u16)?;
     out.extend_from_slice(stored.body.as_slice())?;
     Ok(())

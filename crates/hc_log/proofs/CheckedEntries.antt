@@ -1,11 +1,12 @@
 -- What the tests of one entry, and of several, come to.
-use Rattle.std.proofs.Common.{◌≡◌, ◌≤◌, ◌<◌, ◌^◌, ◌+◌, ℕ, List, [], ◌∷◌, ◌++◌, length, take, get_or, ap, sym, ◌∙◌, subst, append_assoc}
+use Rattle.std.proofs.Common.{◌≡◌, ◌≤◌, ◌<◌, ◌+◌, ℕ, List, [], ◌∷◌, ◌++◌, length, take, get_or, ap, sym, ◌∙◌, subst, append_assoc}
 use Rattle.std.specs.Prelude.{false, ◌&&◌}
 use Rattle.std.proofs.lemmas.List.{take_more}
-use Rattle.hc_entry.specs.Entry.{is_request}
+use Rattle.r2_base.specs.Entry.{is_request}
 use Rattle.hc_log.specs.declared.stored.Stored.{Stored}
 use Rattle.hc_log.specs.declared.totals.Totals.{Totals}
-use Rattle.hc_log.specs.Ranges.{IsStored}
+use Rattle.r2_base.specs.Limits.{greatest_number}
+use Rattle.hc_log.specs.Ranges.{IsStored, most_body_bytes, most_requests}
 use Rattle.hc_log.specs.Log.{IsWithinLimits, MayFollow, FollowEach, stands_in}
 use Rattle.hc_log.specs.Totals.{totals_of, totals_with}
 use Rattle.hc_log.proofs.Counting.{totals_of_more}
@@ -13,7 +14,7 @@ use Rattle.hc_log.proofs.Logs.{FollowEach-push}
 
 -- the counts are within the limits
 abbrev pub AreWithin : Totals → Type 0
-AreWithin t = (t.entries ≤ 2 ^ 62) × (t.requests ≤ 1048576) × (t.body_bytes ≤ 1073741824)
+AreWithin t = (t.entries ≤ greatest_number) × (t.requests ≤ most_requests) × (t.body_bytes ≤ most_body_bytes)
 
 -- and so is the log that they are of
 pub within_from_counts : (log : List Stored) → AreWithin (totals_of log) → IsWithinLimits log

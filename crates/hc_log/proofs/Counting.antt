@@ -3,9 +3,10 @@ use Rattle.std.proofs.Common.{◌≡◌, ℕ, ◌+◌, ◌-◌, ◌<◌, ◌≤�
 use Rattle.std.specs.Prelude.{false, ◌==◌}
 use Rattle.std.proofs.lemmas.List.{take_more, get_or_push, length_push}
 use Rattle.std.proofs.lemmas.List.Sums.{sum_by-append}
-use Rattle.hc_entry.specs.Entry.{is_request}
+use Rattle.r2_base.specs.Entry.{is_request}
 use Rattle.hc_log.specs.declared.stored.Stored.{Stored}
 use Rattle.hc_log.specs.declared.totals.Totals.{Totals}
+use Rattle.hc_log.specs.Ranges.{most_body_bytes}
 use Rattle.hc_log.specs.Log.{blank_of, last_term, requests_of, body_bytes_of, IsWithinLimits}
 use Rattle.hc_log.specs.Totals.{totals_of, totals_with}
 
@@ -85,7 +86,7 @@ can_count log i s within h read =
     let front = IsWithinLimits-take i log within in
     let more = IsWithinLimits-take (i + 1) log within in
     let step : take (i + 1) log ≡ take i log ++ s ∷ [] = take_more log i s h ∙ ap (λ (x : Stored). take i log ++ x ∷ []) (sym read) in
-    let bytes : body_bytes_of (take i log ++ s ∷ []) ≤ 1073741824 = rw (← step) more.body_bytes in
+    let bytes : body_bytes_of (take i log ++ s ∷ []) ≤ most_body_bytes = rw (← step) more.body_bytes in
     record {
       entries = omega (arith, front.entries);
       requests = omega (arith, front.requests);

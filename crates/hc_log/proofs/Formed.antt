@@ -7,8 +7,9 @@ use Rattle.std.proofs.lemmas.List.{take_more, length-take-le, get_or-take, get_o
 use Rattle.std.proofs.lemmas.List.Folds.{list_any_none, list_any_at}
 use Rattle.std.proofs.lemmas.List.Sorted.{IsNonDecreasingBy-from_all_adjacent}
 use Rattle.r2_base.specs.declared.rid.Rid.{Rid}
-use Rattle.hc_entry.specs.Entry.{is_request, same_rid}
-use Rattle.hc_entry.proofs.Rids.{same_rid-true, same_rid-same}
+use Rattle.r2_base.specs.Entry.{is_request}
+use Rattle.r2_base.specs.Names.{same_rid}
+use Rattle.r2_base.proofs.SameNames.{same_rid-true, same_rid-same}
 use Rattle.hc_log.specs.declared.stored.Stored.{Stored}
 use Rattle.hc_log.specs.Log.{last_term, asks_as, stands_in, FollowEach, IsLog}
 use Rattle.hc_log.specs.Laws.{AreApart, IsFormed}

@@ -4,3 +4,4 @@ pub mod Counting
 pub mod Formed
 pub mod Logs
 pub mod Replays
+pub mod Rooms

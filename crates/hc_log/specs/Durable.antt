@@ -1,5 +1,6 @@
 -- What a replica keeps over a crash, and the records of its changes.
-use Rattle.std.specs.Prelude.{◌≡◌, ℕ, ◌<◌, ◌≤◌, ◌^◌, ⊤, Bool, List, [], ◌++◌, length, take, slice_index_or, Option, Some, None, IfSome, All, fold}
+use Rattle.std.specs.Prelude.{◌≡◌, ℕ, ◌<◌, ◌≤◌, ⊤, Bool, List, [], ◌++◌, length, take, slice_index_or, Option, Some, None, IfSome, All, fold}
+use Rattle.r2_base.specs.Limits.{greatest_member, greatest_number}
 use Rattle.hc_log.specs.declared.stored.Stored.{Stored}
 use Rattle.hc_log.specs.declared.record.Record.{Record}
 use Rattle.hc_log.specs.Ranges.{IsInRange}
@@ -47,8 +48,8 @@ IsHistory records = (i : ℕ) (r : Record) → i < length records → IsNext (re
 
 -- a state that a replica may be in
 pub record IsValid (d : State) : Type 0 where
-  pub term : d.term ≤ 2 ^ 62
-  pub vote : IfSome d.vote (λ member. member ≤ 6)
+  pub term : d.term ≤ greatest_number
+  pub vote : IfSome d.vote (λ member. member ≤ greatest_member)
   pub unset : d.term ≡ 0 → d.vote ≡ None
   pub log : IsLog d.log
   pub terms : All (λ s. s.entry.term ≤ d.term) d.log

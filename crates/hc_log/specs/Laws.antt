@@ -1,11 +1,12 @@
 -- What holds of logs, and of durable states and the records that lead from one to the next.
-use Rattle.std.specs.Prelude.{◌≡◌, ◌≢◌, ℕ, ◌≤◌, ◌↔◌, true, List, [], ◌∷◌, ◌++◌, length, take, drop, All, AllPairs}
+use Rattle.std.specs.Prelude.{◌≡◌, ◌≢◌, ℕ, ◌≤◌, ◌↔◌, true, false, List, [], ◌∷◌, ◌++◌, length, take, drop, All, AllPairs}
 use Rattle.std.specs.List.Sorted.{IsNonDecreasingBy}
-use Rattle.hc_entry.specs.Entry.{is_request}
+use Rattle.r2_base.specs.Entry.{is_request}
+use Rattle.r2_base.specs.Limits.{most_entries}
 use Rattle.hc_log.specs.declared.stored.Stored.{Stored}
 use Rattle.hc_log.specs.declared.record.Record.{Record}
 use Rattle.hc_log.specs.Ranges.{IsStored}
-use Rattle.hc_log.specs.Log.{IsWithinLimits, FollowEach, IsLog}
+use Rattle.hc_log.specs.Log.{last_term, stands_in, has_room, IsWithinLimits, MayFollow, FollowEach, IsLog}
 use Rattle.hc_log.specs.Durable.{State, after, replay, KeepsVote, IsNext, IsHistory, IsValid}
 
 -- two entries aren't of one request
@@ -26,6 +27,12 @@ LogsAreFormed = (log : List Stored) → IsLog log ↔ IsFormed log
 -- entries may follow a log, one after another, exactly where the two together are a log
 abbrev pub FollowersMakeALog : Type 0
 FollowersMakeALog = (log entries : List Stored) → IsLog log → FollowEach log entries ↔ IsLog (log ++ entries)
+
+-- a request that doesn't stand in a log, of no earlier term than its last entry's, may follow it where there is room
+abbrev pub RequestsWithRoomFollow : Type 0
+RequestsWithRoomFollow =
+    (log : List Stored) (s : Stored) → IsStored s → is_request s.entry.kind ≡ true → last_term log ≤ s.entry.term
+    → stands_in s.entry.rid log ≡ false → has_room log s.body ≡ true → MayFollow log s
 
 -- behind a valid state and a record that may be its next one there is a valid state
 abbrev pub RecordsKeepStatesValid : Type 0
@@ -48,14 +55,14 @@ abbrev pub record_of : State → ℕ → Record
 record_of e keep = record { term = e.term; vote = e.vote; keep = keep; entries = drop keep e.log }
 
 -- a state may come behind another one: its term isn't lower, a vote of the term stays, the first entries still stand, and
--- there are at most 64 behind them
+-- there are at most `most_entries` after them
 pub record MayComeBehind (d e : State) (keep : ℕ) : Type 0 where
   pub is_set : 1 ≤ e.term
   pub term : d.term ≤ e.term
   pub vote : d.term ≡ e.term → KeepsVote d.vote e.vote
   pub within : keep ≤ length d.log
   pub front : take keep d.log ≡ take keep e.log
-  pub count : length (drop keep e.log) ≤ 64
+  pub count : length (drop keep e.log) ≤ most_entries
 
 -- then its record may be the next one, and leads to it
 abbrev pub ChangesAreRecords : Type 0

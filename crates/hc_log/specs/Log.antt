@@ -1,17 +1,17 @@
 -- Logs: their entries by index, what they count, and which entry may follow a log.
-use Rattle.std.specs.Prelude.{◌≡◌, ℕ, ◌+◌, ◌-◌, ◌<◌, ◌≤◌, ◌^◌, Bool, true, false, ◌==◌, ◌&&◌, nat_lt, nat_le, if◌then◌else◌, List, [], ◌∷◌, ◌++◌, length, take, map, position, slice_index_or, Option, option_map, sum_by, count_by}
+use Rattle.std.specs.Prelude.{◌≡◌, ℕ, ◌+◌, ◌-◌, ◌<◌, ◌≤◌, Bool, true, false, ◌==◌, ◌&&◌, nat_lt, nat_le, if◌then◌else◌, List, [], ◌∷◌, ◌++◌, length, take, map, position, slice_index_or, Option, option_map, sum_by, count_by}
 use Rattle.std.specs.List.{list_any}
 use Rattle.r2_base.specs.declared.rid.Rid.{Rid}
-use Rattle.r2_base.specs.declared.entry.Kind.TheVariants.{Blank}
 use Rattle.r2_base.specs.declared.entry.Entry.{Entry}
-use Rattle.hc_entry.specs.Entry.{is_request, no_rid, same_rid}
-use Rattle.hc_entry.specs.Limits.{no_replier}
+use Rattle.r2_base.specs.Entry.{blank_entry, is_request}
+use Rattle.r2_base.specs.Names.{same_rid}
+use Rattle.r2_base.specs.Limits.{greatest_number}
 use Rattle.hc_log.specs.declared.stored.Stored.{Stored}
-use Rattle.hc_log.specs.Ranges.{IsStored}
+use Rattle.hc_log.specs.Ranges.{IsStored, most_body_bytes, most_requests}
 
 -- the entry that a new leader of a term appends (Raft, section 8 of its extended version)
 abbrev pub blank_of : ℕ → Stored
-blank_of term = record { entry = record { term = term; kind = Blank; rid = no_rid; replier = no_replier }; body = [] }
+blank_of term = record { entry = blank_entry term; body = [] }
 
 -- the entry at an index, counted from 1, with its body; behind the log there is a blank one of term 0
 abbrev pub stored_at : List Stored → ℕ → Stored
@@ -52,13 +52,13 @@ body_bytes_of log = sum_by (λ s. length s.body) log
 -- whether a log may take a further request with this body
 unfoldable pub has_room : List Stored → List ℕ → Bool
 has_room log body =
-    nat_lt (length log) (2 ^ 62) && nat_lt (requests_of log) 1048576 && nat_le (body_bytes_of log + length body) 1073741824
+    nat_lt (length log) greatest_number && nat_lt (requests_of log) most_requests && nat_le (body_bytes_of log + length body) most_body_bytes
 
 -- a log isn't longer than a log may be
 pub record IsWithinLimits (log : List Stored) : Type 0 where
-  pub entries : length log ≤ 2 ^ 62
-  pub requests : requests_of log ≤ 1048576
-  pub body_bytes : body_bytes_of log ≤ 1073741824
+  pub entries : length log ≤ greatest_number
+  pub requests : requests_of log ≤ most_requests
+  pub body_bytes : body_bytes_of log ≤ most_body_bytes
 
 -- an entry may be the next one of a log
 pub record MayFollow (log : List Stored) (s : Stored) : Type 0 where

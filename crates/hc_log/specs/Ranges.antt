@@ -2,10 +2,18 @@
 use Rattle.std.specs.Prelude.{◌≡◌, ℕ, ◌≤◌, List, [], length, IfSome, All}
 use Rattle.r2_base.specs.declared.entry.Kind.{Kind}
 use Rattle.r2_base.specs.declared.entry.Kind.TheVariants.{Blank, Write, Read}
-use Rattle.hc_entry.specs.Entry.{NamesReplier}
-use Rattle.hc_entry.specs.Limits.{greatest_member, greatest_number, most_body, most_entries}
+use Rattle.r2_base.specs.Entry.{NamesReplier}
+use Rattle.r2_base.specs.Limits.{greatest_member, greatest_number, most_body, most_entries}
 use Rattle.hc_log.specs.declared.stored.Stored.{Stored}
 use Rattle.hc_log.specs.declared.record.Record.{Record}
+
+-- the greatest number of requests of a log
+abbrev pub most_requests : ℕ
+most_requests = 1048576
+
+-- the greatest number of bytes that the bodies of a log have together
+abbrev pub most_body_bytes : ℕ
+most_body_bytes = 1073741824
 
 -- a blank entry has no body, and a request's body has a limit
 abbrev pub FitsKind : Kind → List ℕ → Type 0

@@ -1,6 +1,6 @@
 -- What is counted of a log's entries, so that one more can be tested.
 use Rattle.std.specs.Prelude.{◌+◌, cond, List, length}
-use Rattle.hc_entry.specs.Entry.{is_request}
+use Rattle.r2_base.specs.Entry.{is_request}
 use Rattle.hc_log.specs.declared.stored.Stored.{Stored}
 use Rattle.hc_log.specs.declared.totals.Totals.{Totals}
 use Rattle.hc_log.specs.Log.{last_term, requests_of, body_bytes_of}

@@ -1,28 +1,29 @@
 //! The tests of a record that is to be the next one of a durable state.
 ghost use Rattle.std.specs.Prelude.{◌≡◌, ◌+◌, ◌<◌, ◌≤◌, ◌^◌, ◌↔◌, ◌&&◌, ◌++◌, All, IsTrue, IfSome};
-ghost use Rattle.hc_entry.specs.Entry.{is_request, NamesReplier};
-ghost use Rattle.hc_log.specs.Ranges.{FitsKind, IsStored};
+ghost use Rattle.r2_base.specs.Entry.{is_request, NamesReplier};
+ghost use Rattle.r2_base.specs.Limits.{greatest_member, greatest_number};
+ghost use Rattle.hc_log.specs.Ranges.{FitsKind, IsStored, most_body_bytes, most_requests};
 ghost use Rattle.hc_log.specs.Log.{stands_in, IsWithinLimits, MayFollow, FollowEach, IsLog};
 ghost use Rattle.hc_log.specs.Totals.{totals_of};
 ghost use Rattle.hc_log.specs.Durable.{KeepsVote, IsNext};
 
 use crate::entry_list::any_asks_as;
-use crate::limits::{BODY_BYTES_LIMIT, REQUEST_LIMIT};
+use crate::limits::{MOST_BODY_BYTES, MOST_REQUESTS};
 use crate::totals::Totals;
 use crate::{Record, Stored};
-use hc_entry::{
-    GREATEST_MEMBER, GREATEST_NUMBER, MOST_BODY, MOST_ENTRIES, NO_REPLIER, is_no_rid, is_request,
+use r2_base::{
+    GREATEST_MEMBER, GREATEST_NUMBER, Kind, MOST_BODY, MOST_ENTRIES, NO_REPLIER, is_no_rid,
+    is_request,
 };
-use r2_base::Kind;
 
 fn is_term(term: u64) -> bool
-    ensures { IsTrue result ↔ ((1 ≤ term) × (term ≤ 2 ^ 62)) }
+    ensures { IsTrue result ↔ ((1 ≤ term) × (term ≤ greatest_number)) }
 {
     term >= 1 && term <= GREATEST_NUMBER
 }
 
 fn is_member(vote: Option<u8>) -> bool
-    ensures { IsTrue result ↔ IfSome vote (λ member. member ≤ 6) }
+    ensures { IsTrue result ↔ IfSome vote (λ member. member ≤ greatest_member) }
 {
     match vote {
         None => true,
@@ -62,11 +63,11 @@ fn is_stored(s: &Stored) -> bool
 }
 
 fn is_within_limits(totals: Totals) -> bool
-    ensures { IsTrue result ↔ ((totals.entries ≤ 2 ^ 62) × (totals.requests ≤ 1048576) × (totals.body_bytes ≤ 1073741824)) }
+    ensures { IsTrue result ↔ ((totals.entries ≤ greatest_number) × (totals.requests ≤ most_requests) × (totals.body_bytes ≤ most_body_bytes)) }
 {
     totals.entries <= GREATEST_NUMBER
-        && totals.requests <= REQUEST_LIMIT
-        && totals.body_bytes <= BODY_BYTES_LIMIT
+        && totals.requests <= MOST_REQUESTS
+        && totals.body_bytes <= MOST_BODY_BYTES
 }
 
 /// Whether the request of an entry stands among these already.
@@ -119,7 +120,7 @@ fn have_terms_up_to(entries: &[Stored], term: u64) -> bool
     entries.iter().all(|s| s.entry.term <= term)
 }
 
-/// Whether a term and a vote may come behind others (Raft, section 5.2: one vote a term).
+/// Whether a term and a vote may come after others (Raft, section 5.2: one vote a term).
 fn continues(term: u64, vote: Option<u8>, r: &Record) -> bool
     ensures { IsTrue result ↔ ((term ≤ r.now.term) × (term ≡ r.now.term → KeepsVote vote r.now.vote)) }
 {

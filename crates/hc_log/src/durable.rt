@@ -1,4 +1,6 @@
 ghost use Rattle.std.specs.Prelude.{◌≡◌, ◌≤◌, ◌↔◌, ◌++◌, ℕ, true, false, length, take, All, IfOk, OnOk, OnErr, Err};
+ghost use Rattle.r2_base.specs.Memory.{UnlessMemory};
+ghost use Rattle.hc_log.specs.Faults.{is_memory};
 ghost use Rattle.hc_log.specs.Log.{FollowEach, IsLog};
 
 use crate::checks::may_be_next;
@@ -44,12 +46,15 @@ impl Durable {
         }
     }
 
-    /// The state that these records lead to, one after another.
+    /// The state that these records lead to, one after another. It is whole.
+    ///
+    /// They are Unfit exactly where one of them may not be the next one of the state that those before it lead to, unless
+    /// memory runs out first.
     pub fn replay(alloc: Global, records: &[Record]) -> Result<Durable, FollowFault>
         ensures state { IfOk result (λ d. d.state ≡ replay records.now) }
         ensures whole { IfOk result (λ d. d.whole ≡ true) }
         ensures history { OnOk result (IsHistory records.now) }
-        ensures unfit { result ≡ Err FollowFault.Unfit → IsHistory records.now → ⊥ }
+        ensures unfit { UnlessMemory is_memory result ((result ≡ Err FollowFault.Unfit) ↔ (IsHistory records.now → ⊥)) }
     {
         let mut durable = Durable::begin(alloc);
         'records: for r in records {
@@ -79,8 +84,9 @@ impl Durable {
         &self.log
     }
 
-    /// The term, the vote and the log.
+    /// The term, the vote and the log of a state that is whole.
     pub fn into_parts(self) -> (u64, Option<u8>, Log)
+        requires { self.whole ≡ true }
         ensures term { result.0 ≡ self.state.term }
         ensures vote { result.1 ≡ self.state.vote }
         ensures log { result.2 ≡ self.state.log }
@@ -96,7 +102,7 @@ impl Durable {
         (term, vote, log)
     }
 
-    /// Whether no change was left half done. A state that isn't whole is dropped.
+    /// Whether no change was left half done. A state that isn't whole is to be dropped.
     pub fn whole(&self) -> bool
         ensures told { result ≡ self.now.whole }
         ensures holds { IsValid self.now.state }
@@ -104,7 +110,7 @@ impl Durable {
         self.whole
     }
 
-    /// Takes the record's term and vote, keeps the first entries that still stand, and puts the record's own behind them.
+    /// Takes the record's term and vote, keeps the first entries that still stand, and puts the record's own after them.
     /// After a want of memory some of this may have been done: the state isn't whole any more, and is to be dropped.
     pub fn follow(&mut self, r: &Record) -> Result<(), FollowFault>
         ensures state { OnOk result (self.new.state ≡ after self.old.state r.now) }
@@ -130,7 +136,7 @@ impl Durable {
     }
 }
 
-/// Puts copies of these entries behind the first `keep` entries of a log. Without memory some are put there, or none.
+/// Puts copies of these entries after the first `keep` entries of a log. Without memory some are put there, or none.
 fn replace_behind(
     alloc: Global,
     log: &mut Log,

@@ -1,11 +1,11 @@
 //! What a log reads of its entries.
 ghost use Rattle.std.specs.Prelude.{◌≡◌, ◌+◌, ◌-◌, ◌≤◌, ◌&&◌, IfOk, position};
-ghost use Rattle.hc_entry.specs.Entry.{is_request, same_rid};
+ghost use Rattle.r2_base.specs.Entry.{is_request};
+ghost use Rattle.r2_base.specs.Names.{same_rid};
 ghost use Rattle.hc_log.specs.Log.{asks_as, stands_in, metas_of};
 
 use crate::Stored;
-use hc_entry::is_request;
-use r2_base::{Entry, NoMemory, Rid};
+use r2_base::{Duplicate, Entry, NoMemory, Rid, is_request};
 use std::alloc::Global;
 
 /// Whether an entry is of the request with this id.
@@ -39,4 +39,15 @@ pub(crate) fn metas_of(alloc: Global, entries: &[Stored]) -> Result<Vec<Entry>, 
         metas.push(s.entry)?;
     }
     Ok(metas)
+}
+
+/// Copies of the entries with their bodies.
+pub(crate) fn copies_of(alloc: Global, entries: &[Stored]) -> Result<Vec<Stored>, NoMemory>
+    ensures { IfOk result (λ v. v.items ≡ entries.now) }
+{
+    let mut copies = Vec::with_capacity(alloc, entries.len())?;
+    'entries: for s in entries {
+        copies.push(s.duplicate(alloc)?)?;
+    }
+    Ok(copies)
 }

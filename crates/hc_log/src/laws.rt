@@ -1,6 +1,6 @@
 //! What holds of logs, and of durable states and the records that lead from one to the next.
 
-ghost use Rattle.hc_log.specs.Laws.{LogsAreFormed, FollowersMakeALog, RecordsKeepStatesValid, HistoriesLeadToValidStates, ReplaysGoOn, HistoriesGoOn, ChangesAreRecords};
+ghost use Rattle.hc_log.specs.Laws.{LogsAreFormed, FollowersMakeALog, RequestsWithRoomFollow, RecordsKeepStatesValid, HistoriesLeadToValidStates, ReplaysGoOn, HistoriesGoOn, ChangesAreRecords};
 
 /// The logs are the lists of entries in range whose terms never fall, in which no request stands twice, and which aren't too
 /// long.
@@ -11,6 +11,11 @@ pub fn logs_are_formed()
 /// Entries may follow a log, one after another, exactly where the two together are a log.
 pub fn followers_make_a_log()
     ensures { FollowersMakeALog }
+{}
+
+/// A log with room takes each further request in range that it doesn't have and whose term isn't lower than its last one.
+pub fn requests_with_room_follow()
+    ensures { RequestsWithRoomFollow }
 {}
 
 /// Behind a valid state and a record that may be its next one there is a valid state.
@@ -28,12 +33,12 @@ pub fn replays_go_on()
     ensures { ReplaysGoOn }
 {}
 
-/// Records of which each may be the next one stay such a list with one more of that kind behind them.
+/// Records of which each may be the next one stay such a list with one more of that kind after them.
 pub fn histories_go_on()
     ensures { HistoriesGoOn }
 {}
 
-/// Between two states of which one may come behind the other there is a record that may be the next one and leads there.
+/// Between two states of which one may come after the other there is a record that may be the next one and leads there.
 pub fn changes_are_records()
     ensures { ChangesAreRecords }
 {}

@@ -16,6 +16,7 @@ mod totals;
 
 pub use durable::Durable;
 pub use follow_fault::FollowFault;
+pub use limits::{MOST_BODY_BYTES, MOST_REQUESTS};
 pub use log::Log;
 pub use record::Record;
 pub use stored::{Entries, Stored};

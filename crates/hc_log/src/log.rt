@@ -1,16 +1,15 @@
 ghost use Rattle.std.specs.Prelude.{◌≡◌, ◌+◌, ◌-◌, ◌≤◌, ◌^◌, ◌++◌, ◌∷◌, [], length, take, drop, is_some, IfOk, OnOk, OnErr};
 
-use crate::entry_list::{metas_of, position_of};
-use crate::limits::{BODY_BYTES_LIMIT, REQUEST_LIMIT};
+use crate::entry_list::{copies_of, metas_of, position_of};
+use crate::limits::{MOST_BODY_BYTES, MOST_REQUESTS};
 use crate::totals::Totals;
 use crate::{Entries, Stored};
-use hc_entry::GREATEST_NUMBER;
-use r2_base::{Bytes, Entry, Listed, Metas, NoMemory, Rid};
+use r2_base::{Bytes, Entry, GREATEST_NUMBER, Listed, Metas, NoMemory, Rid};
 use std::alloc::Global;
 use std::marker::Model;
 
 /// The ordered entries with their bodies, from index 1 on (Raft, section 5.3). Each may follow those before it: terms never
-/// fall, no request stands twice, and there are at most 1,048,576 requests with 1,073,741,824 bytes of bodies.
+/// fall, no request stands twice, and there are at most `MOST_REQUESTS` requests with `MOST_BODY_BYTES` bytes of bodies.
 #[derive(Debug, Drop)]
 pub struct Log {
     alloc: Global,
@@ -74,8 +73,8 @@ impl Log {
     {
         let bytes = self.totals.body_bytes.saturating_add(body.len() as u64);
         (self.entries.len() as u64) < GREATEST_NUMBER
-            && self.totals.requests < REQUEST_LIMIT
-            && bytes <= BODY_BYTES_LIMIT
+            && self.totals.requests < MOST_REQUESTS
+            && bytes <= MOST_BODY_BYTES
     }
 
     /// The index of the request with this id.
@@ -91,10 +90,19 @@ impl Log {
     }
 
     /// The entries with their bodies.
-    pub fn as_slice(&self) -> &[Stored]
+    pub(crate) fn as_slice(&self) -> &[Stored]
         ensures { result.now ≡ self.now }
     {
         self.entries.as_slice()
+    }
+
+    /// Copies of the entries after the first `keep`, in their order.
+    pub fn entries_after(&self, keep: u64) -> Result<Entries, NoMemory>
+        requires { keep ≤ length self.now }
+        ensures { IfOk result (λ es. es ≡ drop keep self.now) }
+    {
+        let entries = copies_of(self.alloc, &self.entries[keep as usize..])?;
+        Ok(Listed::from_vec(entries))
     }
 
     /// The term of the entry at an index, and 0 at index 0.
@@ -126,7 +134,7 @@ impl Log {
         &self.entries[(index - 1) as usize].body
     }
 
-    /// Puts an entry behind the others.
+    /// Puts an entry after the others.
     pub fn append(&mut self, s: Stored) -> Result<(), NoMemory>
         requires { MayFollow self.old s }
         ensures ok { OnOk result (self.new ≡ self.old ++ s ∷ []) }

@@ -10,7 +10,7 @@ pub struct Record {
     pub vote: Option<u8>,
     /// How many entries of the log before still stand.
     pub keep: u64,
-    /// The entries behind those.
+    /// The entries after those.
     pub entries: Entries,
 }
 

@@ -1,4 +1,4 @@
-ghost use Rattle.std.specs.Prelude.{◌≤◌};
+ghost use Rattle.std.specs.Prelude.{◌≡◌, ◌≤◌, true, IfOk};
 
 use crate::{Durable, Entries, FollowFault, Record, Stored};
 use r2_base::{Addr, Bytes, Entry, Kind, NoMemory, Rid};
@@ -55,7 +55,9 @@ fn record(
 }
 
 /// The first entries, in term 1 with a vote for member 0.
-fn begun(alloc: Global) -> Result<Durable, FollowFault> {
+fn begun(alloc: Global) -> Result<Durable, FollowFault>
+    ensures { IfOk result (λ d. d.whole ≡ true) }
+{
     let mut durable = Durable::begin(alloc);
     let first = record(alloc, 1, Some(0), 0, &FIRST[..1])?;
     durable.follow(&first)?;
@@ -114,53 +116,15 @@ fn a_later_term_replaces_entries(rt: HostRuntime) -> Result<(), Fail> {
 /// What is wrong, and a record's term, vote, keep and entries.
 type Wrong = (&'static str, u64, Option<u8>, u64, &'static [Line]);
 
-const WRONG: [Wrong; 11] = [
+const WRONG: [Wrong; 3] = [
     ("a second vote in one term", 1, Some(1), 3, &[]),
-    ("a lower term", 0, None, 3, &[]),
-    ("a vote for member 7", 2, Some(7), 3, &[]),
     ("a keep past the log", 1, Some(0), 4, &[]),
-    (
-        "an entry of a lower term",
-        2,
-        None,
-        3,
-        &[(0, Kind::Blank, 0, 255, 0)],
-    ),
-    (
-        "an entry of a later term",
-        1,
-        Some(0),
-        3,
-        &[(2, Kind::Blank, 0, 255, 0)],
-    ),
     (
         "an id of the log",
         1,
         Some(0),
         3,
         &[(1, Kind::Write, 1, 0, 0)],
-    ),
-    (
-        "an id twice",
-        1,
-        Some(0),
-        3,
-        &[(1, Kind::Write, 7, 0, 0), (1, Kind::Read, 7, 1, 0)],
-    ),
-    ("replier 7", 1, Some(0), 3, &[(1, Kind::Write, 7, 7, 0)]),
-    (
-        "a blank entry with an id",
-        1,
-        Some(0),
-        3,
-        &[(1, Kind::Blank, 7, 255, 0)],
-    ),
-    (
-        "a body of 61,441 bytes",
-        1,
-        Some(0),
-        3,
-        &[(1, Kind::Write, 7, 0, 61_441)],
     ),
 ];
 
@@ -170,12 +134,46 @@ fn other_records_are_unfit(rt: HostRuntime) -> Result<(), Fail> {
     for (what, term, vote, keep, lines) in WRONG {
         let wrong = record(rt.alloc(), term, vote, keep, lines)?;
         assert_eq!(rt; durable.follow(&wrong), Err(FollowFault::Unfit), "{what}");
-        assert_eq!(rt; durable.log().last(), 3, "{what}");
     }
+    assert_eq!(rt; (durable.log().last(), durable.whole()), (3, true));
+    Ok(())
+}
+
+/// The record of 50 writes after so many others.
+fn writes(alloc: Global, before: u16) -> Result<Record, NoMemory>
+    requires { before ≤ 10000 }
+{
+    let mut entries = Entries::new(alloc);
+    for i in 0..50 {
+        entries.push(stored(alloc, &(1, Kind::Write, before + i, 0, 1))?)?;
+    }
+    Ok(Record {
+        term: 1,
+        vote: None,
+        keep: u64::from(before),
+        entries,
+    })
+}
+
+/// The state after 200 records of 50 writes each.
+fn grown(alloc: Global) -> Result<Durable, FollowFault> {
+    let mut durable = Durable::begin(alloc);
+    for i in 0..200 {
+        durable.follow(&writes(alloc, 50 * i)?)?;
+    }
+    Ok(durable)
+}
+
+#[test]
+fn a_log_grows_to_10000_entries(rt: HostRuntime) -> Result<(), Fail> {
+    let durable = grown(rt.alloc())?;
+    let log = durable.log();
     assert_eq!(rt;
-        (durable.term(), durable.vote(), durable.whole()),
-        (1, Some(0), true)
+        (log.last(), log.requests(), log.body_bytes()),
+        (10_000, 10_000, 10_000)
     );
+    assert_eq!(rt; log.place_of(&rid(9_999)), Some(10_000));
+    assert_eq!(rt; log.entries_after(9_990)?.len(), 10);
     Ok(())
 }
 

@@ -2,7 +2,7 @@ ghost use Rattle.std.specs.Prelude.{◌≡◌, ◌+◌, ◌<◌, ◌^◌, [], �
 ghost use Rattle.hc_log.specs.Log.{IsWithinLimits};
 
 use crate::Stored;
-use hc_entry::is_request;
+use r2_base::is_request;
 
 /// What is counted of the entries of a log, so that one more can be tested.
 #[derive(Clone, Copy, Debug)]
@@ -26,7 +26,7 @@ impl Totals {
         body_bytes: 0,
     };
 
-    /// Those of the entries with one more behind them.
+    /// Those of the entries with one more after them.
     pub(crate) fn with(&self, s: &Stored) -> Totals
         requires entries { self.now.entries + 1 < 2 ^ 64 }
         requires requests { self.now.requests + 1 < 2 ^ 64 }

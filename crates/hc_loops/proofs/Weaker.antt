@@ -1,5 +1,5 @@
 -- What follows of a loop that ran: its party sends by each rule that follows from its own, and what passed may be told otherwise.
-use Rattle.std.proofs.Common.{◌≡◌, ◌⊎◌, inl, inr, ℕ, List, [], ◌++◌, Option, refl, arith}
+use Rattle.std.proofs.Common.{inl, inr, ℕ, List, [], ◌++◌, Option, refl, arith}
 use Rattle.r2_base.specs.declared.datagram.Datagram.{Datagram}
 use Rattle.r2_base.specs.declared.event.Event.{Event}
 use Rattle.r2_link.specs.declared.lane.Item.{Item}

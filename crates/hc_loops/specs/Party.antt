@@ -1,10 +1,15 @@
 -- One turn of a party of the protocol.
-use Rattle.std.specs.Prelude.{List, [], ◌∷◌, ◌++◌, Option}
+use Rattle.std.specs.Prelude.{ℕ, ◌*◌, List, [], ◌∷◌, ◌++◌, Option}
 use Rattle.r2_base.specs.declared.datagram.Datagram.{Datagram}
 use Rattle.r2_base.specs.declared.event.Event.{Event}
+use Rattle.r2_base.specs.Limits.{most_turns}
 use Rattle.r2_link.specs.Told.{Gains}
 use Rattle.hc_status.specs.declared.status.Status.{Status}
 use Rattle.hc_status.specs.declared.status.Status.TheVariants.{LinkFault, Memory}
+
+-- the most events of a loop: what was received in each of its turns, and a tick
+abbrev pub most_events : ℕ
+most_events = 2 * most_turns
 
 -- turns at some events more: where a party came to be what it was over some events, it is now what it is over these and the further ones
 abbrev pub Turns : {P : Type 0} → (P → List Event → List Datagram → P → Type 0) → P → P → List Event → List Datagram → Type 0

@@ -1,7 +1,8 @@
-ghost use Rattle.std.specs.Prelude.{◌≡◌, ℕ, ◌+◌, ◌^◌, ◌<◌, ◌≤◌, [], None, true, false, IfErr, IfOk, OnOk};
+ghost use Rattle.std.specs.Prelude.{◌≡◌, ℕ, ◌+◌, ◌<◌, ◌≤◌, [], None, true, false, IfErr, IfOk, OnOk};
 ghost use Rattle.r2_link.specs.Faults.{Rose};
 ghost use Rattle.r2_link.specs.Told.{IsKept};
 ghost use Rattle.hc_loops.specs.Outside.{Passes, RanDry};
+ghost use Rattle.hc_loops.specs.Party.{most_events};
 ghost use Rattle.hc_loops.specs.Round.{AsksClock, StopsItem, StopsTick, TakesItem};
 ghost use Rattle.hc_status.specs.declared.status.Status.TheVariants.{LinkFault, ClockFault};
 
@@ -21,7 +22,7 @@ pub(crate) fn take_item<P: Party, L: Link>(
     link: &mut L,
     wait_ms: u64,
 ) -> Result<bool, Status>
-    requires { (n : ℕ) × (n < 2 ^ 57) × P.had_turns n party.old }
+    requires { (n : ℕ) × (n < most_events) × P.had_turns n party.old }
     ensures made { IfOk result (λ on. on ≡ true → TakesItem P.turned party.old party.new
         (record { left = L.left link.old; sent = L.sent link.old; clock = None }) (record { left = L.left link.new; sent = L.sent link.new; clock = None })) }
     ensures end { IfOk result (λ on. on ≡ false → RanDry (L.left link.old) (L.left link.new)) }
@@ -53,7 +54,7 @@ pub(crate) fn ask_clock<P: Party, L: Link, C: Clock>(
     clock: &mut C,
     ticker: &mut Ticker,
 ) -> Result<(), Status>
-    requires room { (n : ℕ) × (n < 2 ^ 57) × P.had_turns n party.old }
+    requires room { (n : ℕ) × (n < most_events) × P.had_turns n party.old }
     requires tick { 1 ≤ ticker.old.tick_ms }
     ensures made { OnOk result (AsksClock P.turned party.old party.new ticker.old ticker.new
         (record { left = L.left link.old; sent = L.sent link.old; clock = C.left clock.old }) (record { left = L.left link.new; sent = L.sent link.new; clock = C.left clock.new })) }
@@ -69,7 +70,7 @@ pub(crate) fn ask_clock<P: Party, L: Link, C: Clock>(
     let Ok(moment) = clock.now() else {
         return Err(Status::ClockFault);
     };
-    if ticker.is_due(moment) {
+    if ticker.pass_tick(moment) {
         if let Err(status) = make_turn(party, link, &Event::Tick) {
             return Err(status);
         }

@@ -1,6 +1,7 @@
-ghost use Rattle.std.specs.Prelude.{◌≡◌, ◌≢◌, ◌≤◌, ◌^◌, List};
-ghost use Rattle.r2_base.specs.declared.datagram.Datagram.{Datagram as Sent};
-ghost use Rattle.r2_base.specs.declared.event.Event.{Event as Happening};
+ghost use Rattle.std.specs.Prelude.{◌≡◌, ◌≢◌, ◌≤◌, List};
+ghost use Rattle.r2_base.specs.declared.datagram.Datagram.{Datagram as DatagramSpec};
+ghost use Rattle.r2_base.specs.declared.event.Event.{Event as EventSpec};
+ghost use Rattle.r2_base.specs.Limits.{most_turns};
 ghost use Rattle.r2_link.specs.Faults.{Rose};
 ghost use Rattle.r2_link.specs.Told.{IsKept};
 ghost use Rattle.hc_status.specs.declared.status.Status.TheVariants.{LinkFault, ClockFault};
@@ -26,11 +27,11 @@ pub fn serve<P: Party, L: Link, C: Clock>(
 ) -> Status
     requires fresh { P.had_turns 0 party.old }
     requires tick { 1 ≤ pace.tick_ms }
-    requires turns { pace.turns ≤ 2 ^ 56 }
+    requires turns { pace.turns ≤ most_turns }
 
     // What was taken in and sent. Where the link ended, or all receives were made, the party is what its turns left.
-    ensures ran { Serves (λ (events : List Happening) (sent : List Sent). P.turned party.old events sent party.new)
-        (λ (events : List Happening) (sent : List Sent). (last : P) × P.turned party.old events sent last) pace
+    ensures ran { Serves (λ (events : List EventSpec) (sent : List DatagramSpec). P.turned party.old events sent party.new)
+        (λ (events : List EventSpec) (sent : List DatagramSpec). (last : P) × P.turned party.old events sent last) pace
         (record { left = L.left link.old; sent = L.sent link.old; clock = C.left clock.old })
         (record { left = L.left link.new; sent = L.sent link.new; clock = C.left clock.new }) result }
 

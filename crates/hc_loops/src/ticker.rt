@@ -12,9 +12,10 @@ pub struct Ticker {
 }
 
 impl Ticker {
-    /// Whether more ticks have gone by at this moment than at any before. Those in between are left out.
+    /// Passes on to a moment: whether a tick is due at it, which is where more whole ticks have gone by than at any moment before. It is
+    /// one tick, however many have gone by since.
     #[tactic(auto, unfolding(crate::specs::Events::elapsed))]
-    pub fn is_due(&mut self, moment: u64) -> bool
+    pub fn pass_tick(&mut self, moment: u64) -> bool
         requires { 1 ≤ self.old.tick_ms }
         ensures due { result ≡ nat_lt self.old.reached (elapsed self.old.tick_ms self.old.start moment) }
         ensures counted { self.new ≡ ticked self.old moment }

@@ -1,7 +1,7 @@
-ghost use Rattle.std.specs.Prelude.{◌≡◌, ℕ, ◌+◌, ◌^◌, ◌<◌, ◌≤◌, ◌≢◌, List, IfErr, OnErr, OnOk};
+ghost use Rattle.std.specs.Prelude.{◌≡◌, ℕ, ◌+◌, ◌<◌, ◌≤◌, ◌≢◌, List, IfErr, OnErr, OnOk};
 ghost use Rattle.r2_link.specs.Faults.{Rose};
 ghost use Rattle.r2_link.specs.Told.{Gains, IsKept};
-ghost use Rattle.hc_loops.specs.Party.{MakesTurn, StopsTurn};
+ghost use Rattle.hc_loops.specs.Party.{MakesTurn, StopsTurn, most_events};
 ghost use Rattle.hc_loops.specs.Sending.{GainsFront};
 ghost use Rattle.hc_status.specs.declared.status.Status.TheVariants.{LinkFault};
 
@@ -33,7 +33,7 @@ pub(crate) fn make_turn<P: Party, L: Link>(
     link: &mut L,
     event: &Event,
 ) -> Result<(), Status>
-    requires { (n : ℕ) × (n < 2 ^ 57) × P.had_turns n party.old }
+    requires { (n : ℕ) × (n < most_events) × P.had_turns n party.old }
     ensures made { OnOk result (MakesTurn P.turned party.old party.new event.now (L.sent link.old) (L.sent link.new)) }
     ensures counted { OnOk result ((n : ℕ) → P.had_turns n party.old → P.had_turns (n + 1) party.new) }
     ensures stops { IfErr result (StopsTurn P.turned party.old party.new event.now (L.sent link.old) (L.sent link.new)) }

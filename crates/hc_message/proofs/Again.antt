@@ -8,36 +8,37 @@ use Rattle.r2_base.specs.declared.entry.Entry.{Entry}
 use Rattle.r2_base.specs.Numbers.{u64_bytes}
 use Rattle.hc_message.specs.declared.msg.Msg.{Msg}
 use Rattle.hc_message.specs.declared.msg.Msg.TheVariants.{VoteReq, Vote, Order, Ack, Nack, AggCommit, RecoverAsk, RecoverBody}
-use Rattle.hc_entry.specs.Limits.{greatest_member, greatest_number, most_body, most_entries}
-use Rattle.hc_message.specs.Entry.{FitsRid, IsIndex, IsMember, IsTerm, entry_bytes, flag_number, kind_number}
-use Rattle.hc_message.specs.Laws.{BytesBehindAreExtra, FitsFields, HasEnd, SpellingIsRead}
-use Rattle.hc_message.specs.Message.{AreOrdered, IsOrdering, IsValid, spelling}
-use Rattle.hc_message.specs.Reading.{ack_at, ask_at, body_at, commit_at, ended, fields_at, index_at, member_at, message_of, nack_at, order_at, term_at, vote_at, vote_request_at}
+use Rattle.r2_base.specs.Limits.{greatest_member, greatest_number, most_body, most_entries}
+use Rattle.hc_message.specs.Entry.{IsIndex, IsMember, IsTerm, narrow_entry_bytes, flag_number, kind_number}
+use Rattle.r2_base.specs.Names.{FitsRid}
+use Rattle.hc_message.specs.Laws.{BytesBehindAreExtra, FitsMessage, HasEnd, SpellingIsRead}
+use Rattle.hc_message.specs.Message.{AreOrdered, IsOrdering, IsValid, message_bytes}
+use Rattle.hc_message.specs.Reading.{front_ack, front_ask, front_body, front_commit, ended, front_fields, front_index, front_member, decode_message, front_nack, front_order, front_order_head, front_term, front_vote, front_vote_request}
 use Rattle.hc_message.proofs.FieldLaws.{flag_again, kind_again, number_again, small_again}
 use Rattle.hc_message.proofs.Ordered.{chained_ordered, entries_again}
 use Rattle.hc_message.proofs.Taken.{MayStandBehind}
 
-term_again : (n : ℕ) (rest : List ℕ) → IsTerm n → term_at (u64_bytes n ++ rest) ≡ Ok (n, rest)
-unfolding term_at
+term_again : (n : ℕ) (rest : List ℕ) → IsTerm n → front_term (u64_bytes n ++ rest) ≡ Ok (n, rest)
+unfolding front_term
 term_again n rest is = let most = is.most in number_again 1 greatest_number n rest is.least is.most (omega arith)
 
-index_again : (n : ℕ) (rest : List ℕ) → IsIndex n → index_at (u64_bytes n ++ rest) ≡ Ok (n, rest)
-unfolding index_at
+index_again : (n : ℕ) (rest : List ℕ) → IsIndex n → front_index (u64_bytes n ++ rest) ≡ Ok (n, rest)
+unfolding front_index
 index_again n rest is = number_again 0 greatest_number n rest (omega arith) is (omega arith)
 
-member_again : (n : ℕ) (rest : List ℕ) → IsMember n → member_at (n ∷ rest) ≡ Ok (n, rest)
-unfolding member_at
+member_again : (n : ℕ) (rest : List ℕ) → IsMember n → front_member (n ∷ rest) ≡ Ok (n, rest)
+unfolding front_member
 member_again n rest is = small_again 0 greatest_member n rest (omega arith) is
 
-vote_request_again : (term member last_index last_term : ℕ) (rest : List ℕ) → IsValid (VoteReq term member last_index last_term) → vote_request_at (u64_bytes term ++ (member ∷ (u64_bytes last_index ++ (u64_bytes last_term ++ rest)))) ≡ Ok (VoteReq term member last_index last_term, rest)
-unfolding vote_request_at
+vote_request_again : (term member last_index last_term : ℕ) (rest : List ℕ) → IsValid (VoteReq term member last_index last_term) → front_vote_request (u64_bytes term ++ (member ∷ (u64_bytes last_index ++ (u64_bytes last_term ++ rest)))) ≡ Ok (VoteReq term member last_index last_term, rest)
+unfolding front_vote_request
 vote_request_again term member last_index last_term rest v =
     let most = v.0.most in
     let below = v.3 in
     rw (term_again term (member ∷ (u64_bytes last_index ++ (u64_bytes last_term ++ rest))) v.0, member_again member (u64_bytes last_index ++ (u64_bytes last_term ++ rest)) v.1, index_again last_index (u64_bytes last_term ++ rest) v.2, number_again 0 term last_term rest (omega arith) v.3 (omega arith)) refl
 
-vote_again : (term member : ℕ) (granted : Bool) (rest : List ℕ) → IsValid (Vote term member granted) → vote_at (u64_bytes term ++ (member ∷ (flag_number granted ∷ rest))) ≡ Ok (Vote term member granted, rest)
-unfolding vote_at
+vote_again : (term member : ℕ) (granted : Bool) (rest : List ℕ) → IsValid (Vote term member granted) → front_vote (u64_bytes term ++ (member ∷ (flag_number granted ∷ rest))) ≡ Ok (Vote term member granted, rest)
+unfolding front_vote
 vote_again term member granted rest v =
     rw (term_again term (member ∷ (flag_number granted ∷ rest)) v.0, member_again member (flag_number granted ∷ rest) v.1, flag_again granted rest) refl
 
@@ -46,10 +47,10 @@ regroup : (a x c d e f rest : List ℕ) → (((((a ++ x) ++ c) ++ d) ++ e) ++ f)
 regroup a x c d e f rest = simp append_assoc
 
 order_again : (term leader prev_index prev_term term_start commit : ℕ) (via : Bool) (es : List Entry) (rest : List ℕ) → IsOrdering term leader prev_index prev_term term_start commit → AreOrdered prev_index prev_term term es → All (λ e. FitsRid e.rid) es
-    → order_at (u64_bytes term ++ (leader ∷ (u64_bytes prev_index ++ (u64_bytes prev_term ++ (u64_bytes term_start ++ (u64_bytes commit ++ (flag_number via ∷ (length es ∷ (flat_map entry_bytes es ++ rest))))))))) ≡ Ok (Order term leader prev_index prev_term term_start commit via es, rest)
-unfolding order_at
+    → front_order (u64_bytes term ++ (leader ∷ (u64_bytes prev_index ++ (u64_bytes prev_term ++ (u64_bytes term_start ++ (u64_bytes commit ++ (flag_number via ∷ (length es ∷ (flat_map narrow_entry_bytes es ++ rest))))))))) ≡ Ok (Order term leader prev_index prev_term term_start commit via es, rest)
+unfolding front_order front_order_head
 order_again term leader prev_index prev_term term_start commit via es rest v ordered fit =
-    let r8 : List ℕ = flat_map entry_bytes es ++ rest in
+    let r8 : List ℕ = flat_map narrow_entry_bytes es ++ rest in
     let r7 : List ℕ = length es ∷ r8 in
     let r6 : List ℕ = flag_number via ∷ r7 in
     let r5 : List ℕ = u64_bytes commit ++ r6 in
@@ -62,31 +63,31 @@ order_again term leader prev_index prev_term term_start commit via es rest v ord
     let room = ordered.room in
     rw (term_again term (leader ∷ r2) v.own, member_again leader r2 v.sender, index_again prev_index r3 v.behind, number_again 0 term prev_term r4 (omega arith) v.least (omega arith), term_again term_start r5 v.start, index_again commit r6 v.agreed, flag_again via r7, small_again 0 (min most_entries (greatest_number - prev_index)) (length es) r8 (omega arith) (omega arith), entries_again es (max 1 prev_term) term rest (omega arith) (chained_ordered prev_index prev_term term es ordered fit)) refl
 
-ack_again : (term member index applied : ℕ) (rest : List ℕ) → IsValid (Ack term member index applied) → ack_at (u64_bytes term ++ (member ∷ (u64_bytes index ++ (u64_bytes applied ++ rest)))) ≡ Ok (Ack term member index applied, rest)
-unfolding ack_at
+ack_again : (term member index applied : ℕ) (rest : List ℕ) → IsValid (Ack term member index applied) → front_ack (u64_bytes term ++ (member ∷ (u64_bytes index ++ (u64_bytes applied ++ rest)))) ≡ Ok (Ack term member index applied, rest)
+unfolding front_ack
 ack_again term member index applied rest v =
     rw (term_again term (member ∷ (u64_bytes index ++ (u64_bytes applied ++ rest))) v.0, member_again member (u64_bytes index ++ (u64_bytes applied ++ rest)) v.1, index_again index (u64_bytes applied ++ rest) v.2, index_again applied rest v.3) refl
 
-nack_again : (term member hint : ℕ) (rest : List ℕ) → IsValid (Nack term member hint) → nack_at (u64_bytes term ++ (member ∷ (u64_bytes hint ++ rest))) ≡ Ok (Nack term member hint, rest)
-unfolding nack_at
+nack_again : (term member hint : ℕ) (rest : List ℕ) → IsValid (Nack term member hint) → front_nack (u64_bytes term ++ (member ∷ (u64_bytes hint ++ rest))) ≡ Ok (Nack term member hint, rest)
+unfolding front_nack
 nack_again term member hint rest v =
     rw (term_again term (member ∷ (u64_bytes hint ++ rest)) v.0, member_again member (u64_bytes hint ++ rest) v.1, index_again hint rest v.2) refl
 
-commit_again : (term index : ℕ) (rest : List ℕ) → IsValid (AggCommit term index) → commit_at (u64_bytes term ++ (u64_bytes index ++ rest)) ≡ Ok (AggCommit term index, rest)
-unfolding commit_at
+commit_again : (term index : ℕ) (rest : List ℕ) → IsValid (AggCommit term index) → front_commit (u64_bytes term ++ (u64_bytes index ++ rest)) ≡ Ok (AggCommit term index, rest)
+unfolding front_commit
 commit_again term index rest v = rw (term_again term (u64_bytes index ++ rest) v.0, index_again index rest v.1) refl
 
-ask_again : (member : ℕ) (rest : List ℕ) → IsMember member → ask_at (member ∷ rest) ≡ Ok (RecoverAsk member, rest)
-unfolding ask_at
+ask_again : (member : ℕ) (rest : List ℕ) → IsMember member → front_ask (member ∷ rest) ≡ Ok (RecoverAsk member, rest)
+unfolding front_ask
 ask_again member rest v = rw (member_again member rest v) refl
 
-body_again : (kind : Kind) (body : List ℕ) → IsValid (RecoverBody kind body) → body_at (kind_number kind ∷ body) ≡ Ok (RecoverBody kind body, [])
-unfolding body_at
+body_again : (kind : Kind) (body : List ℕ) → IsValid (RecoverBody kind body) → front_body (kind_number kind ∷ body) ≡ Ok (RecoverBody kind body, [])
+unfolding front_body
 body_again kind body v = rw (kind_again 1 kind body v.0, le-leb (length body) most_body v.1) refl
 
 -- the bytes of a valid message, and what stands behind them
-reads : (m : Msg) (rest : List ℕ) → MayStandBehind rest m → FitsFields m → IsValid m → message_of (spelling m ++ rest) ≡ ended (Ok (m, rest))
-unfolding message_of fields_at spelling
+reads : (m : Msg) (rest : List ℕ) → MayStandBehind rest m → FitsMessage m → IsValid m → decode_message (message_bytes m ++ rest) ≡ ended (Ok (m, rest))
+unfolding decode_message front_fields message_bytes
 reads (VoteReq term member last_index last_term) rest may fits v =
     let regrouped : ((u64_bytes term ++ member ∷ u64_bytes last_index) ++ u64_bytes last_term) ++ rest ≡ u64_bytes term ++ (member ∷ (u64_bytes last_index ++ (u64_bytes last_term ++ rest))) = simp append_assoc in
     rw (regrouped, vote_request_again term member last_index last_term rest v) refl
@@ -94,7 +95,7 @@ reads (Vote term member granted) rest may fits v =
     let regrouped : (u64_bytes term ++ member ∷ flag_number granted ∷ []) ++ rest ≡ u64_bytes term ++ (member ∷ (flag_number granted ∷ rest)) = simp append_assoc in
     rw (regrouped, vote_again term member granted rest v) refl
 reads (Order term leader prev_index prev_term term_start commit via es) rest may fits v =
-    let regrouped = regroup (u64_bytes term) (leader ∷ u64_bytes prev_index) (u64_bytes prev_term) (u64_bytes term_start) (u64_bytes commit) (flag_number via ∷ length es ∷ flat_map entry_bytes es) rest in
+    let regrouped = regroup (u64_bytes term) (leader ∷ u64_bytes prev_index) (u64_bytes prev_term) (u64_bytes term_start) (u64_bytes commit) (flag_number via ∷ length es ∷ flat_map narrow_entry_bytes es) rest in
     rw (regrouped, order_again term leader prev_index prev_term term_start commit via es rest v.0 v.1 fits) refl
 reads (Ack term member index applied) rest may fits v =
     let regrouped : ((u64_bytes term ++ member ∷ u64_bytes index) ++ u64_bytes applied) ++ rest ≡ u64_bytes term ++ (member ∷ (u64_bytes index ++ (u64_bytes applied ++ rest))) = simp append_assoc in
@@ -120,7 +121,7 @@ may_be_empty (RecoverBody kind body) = refl
 
 pub spelling_is_read : SpellingIsRead
 spelling_is_read m bytes fits spells =
-    ap message_of (spells.same ∙ sym (append-nil (spelling m))) ∙ reads m [] (may_be_empty m) fits spells.valid
+    ap decode_message (spells.same ∙ sym (append-nil (message_bytes m))) ∙ reads m [] (may_be_empty m) fits spells.valid
 
 may_be_extra : (m : Msg) (rest : List ℕ) → HasEnd m → MayStandBehind rest m
 may_be_extra (VoteReq term member last_index last_term) rest has = tt

@@ -1,4 +1,5 @@
 pub mod Takes
+pub mod Unless
 pub mod Numbers
 pub mod FieldLaws
 pub mod EntriesLoop
@@ -7,4 +8,6 @@ pub mod Taken
 pub mod Again
 pub mod Sizes
 pub mod EntriesFit
+pub mod Stays
+pub mod Prefixes
 pub mod Whole

@@ -6,10 +6,11 @@ use Rattle.std.proofs.lemmas.List.Concat.{flat_map-cons}
 use Rattle.std.proofs.lemmas.List.Elements.{All-cons, All-head, All-nil, All-weaker}
 use Rattle.r2_base.specs.declared.entry.Entry.{Entry}
 use Rattle.r2_base.specs.Numbers.{AreBytes}
-use Rattle.hc_entry.specs.Limits.{greatest_number, most_entries}
-use Rattle.hc_message.specs.Entry.{FitsRid, entry_bytes}
+use Rattle.r2_base.specs.Limits.{greatest_number, most_entries}
+use Rattle.hc_message.specs.Entry.{narrow_entry_bytes}
+use Rattle.r2_base.specs.Names.{FitsRid}
 use Rattle.hc_message.specs.Message.{AreOrdered}
-use Rattle.hc_message.specs.Reading.{entries_at}
+use Rattle.hc_message.specs.Reading.{front_entries}
 use Rattle.hc_message.proofs.Takes.{Takes, Takes-then, bind_ok, ok_is}
 use Rattle.hc_message.proofs.FieldLaws.{IsWithin, entry_again, entry_takes}
 
@@ -18,25 +19,25 @@ abbrev pub AreChained : ℕ → ℕ → List Entry → Type 0
 AreChained least most [] = Unit {0}
 AreChained least most (e ∷ es) = IsWithin least most e × AreChained e.term most es
 
-pub entries_take : (count least most : ℕ) (bytes : List ℕ) (x : List Entry × List ℕ) → AreBytes bytes → entries_at count least most bytes ≡ Ok x → Takes bytes (flat_map entry_bytes x.0) x.1 × (length x.0 ≡ count) × AreChained least most x.0
-unfolding entries_at
+pub entries_take : (count least most : ℕ) (bytes : List ℕ) (x : List Entry × List ℕ) → AreBytes bytes → front_entries count least most bytes ≡ Ok x → Takes bytes (flat_map narrow_entry_bytes x.0) x.1 × (length x.0 ≡ count) × AreChained least most x.0
+unfolding front_entries
 entries_take zero least most bytes x are e =
-    subst (λ (y : List Entry × List ℕ). Takes bytes (flat_map entry_bytes y.0) y.1 × (length y.0 ≡ 0) × AreChained least most y.0) (ok_is ([], bytes) x e) (record { parts = refl; rest_are = are }, refl, tt)
+    subst (λ (y : List Entry × List ℕ). Takes bytes (flat_map narrow_entry_bytes y.0) y.1 × (length y.0 ≡ 0) × AreChained least most y.0) (ok_is ([], bytes) x e) (record { parts = refl; rest_are = are }, refl, tt)
 entries_take (suc count) least most bytes x are e =
     let a = bind_ok _ _ _ e in
     let b = bind_ok _ _ _ a.2 in
     let first = entry_takes least most bytes a.0 are a.1 in
     let others = entries_take count a.0.0.term most a.0.1 b.0 first.0.rest_are b.1 in
-    let both = Takes-then bytes (entry_bytes a.0.0) a.0.1 (flat_map entry_bytes b.0.0) b.0.1 first.0 others.0 in
+    let both = Takes-then bytes (narrow_entry_bytes a.0.0) a.0.1 (flat_map narrow_entry_bytes b.0.0) b.0.1 first.0 others.0 in
     let made : List Entry × List ℕ = (a.0.0 ∷ b.0.0, b.0.1) in
-    subst (λ (y : List Entry × List ℕ). Takes bytes (flat_map entry_bytes y.0) y.1 × (length y.0 ≡ suc count) × AreChained least most y.0) (ok_is made x b.2) (rw flat_map-cons both, ap suc others.1, (first.1, others.2))
+    subst (λ (y : List Entry × List ℕ). Takes bytes (flat_map narrow_entry_bytes y.0) y.1 × (length y.0 ≡ suc count) × AreChained least most y.0) (ok_is made x b.2) (rw flat_map-cons both, ap suc others.1, (first.1, others.2))
 
-pub entries_again : (es : List Entry) (least most : ℕ) (rest : List ℕ) → most < 2 ^ 64 → AreChained least most es → entries_at (length es) least most (flat_map entry_bytes es ++ rest) ≡ Ok (es, rest)
-unfolding entries_at
+pub entries_again : (es : List Entry) (least most : ℕ) (rest : List ℕ) → most < 2 ^ 64 → AreChained least most es → front_entries (length es) least most (flat_map narrow_entry_bytes es ++ rest) ≡ Ok (es, rest)
+unfolding front_entries
 entries_again [] least most rest below chained = refl
 entries_again (e ∷ es) least most rest below chained =
-    let regrouped : flat_map entry_bytes (e ∷ es) ++ rest ≡ entry_bytes e ++ (flat_map entry_bytes es ++ rest) = ap (λ (t : List ℕ). t ++ rest) (flat_map-cons entry_bytes e es) ∙ append_assoc (entry_bytes e) (flat_map entry_bytes es) rest in
-    ap (entries_at (suc (length es)) least most) regrouped ∙ rw (entry_again least most e (flat_map entry_bytes es ++ rest) below chained.0, entries_again es e.term most rest below chained.1) refl
+    let regrouped : flat_map narrow_entry_bytes (e ∷ es) ++ rest ≡ narrow_entry_bytes e ++ (flat_map narrow_entry_bytes es ++ rest) = ap (λ (t : List ℕ). t ++ rest) (flat_map-cons narrow_entry_bytes e es) ∙ append_assoc (narrow_entry_bytes e) (flat_map narrow_entry_bytes es) rest in
+    ap (front_entries (suc (length es)) least most) regrouped ∙ rw (entry_again least most e (flat_map narrow_entry_bytes es ++ rest) below chained.0, entries_again es e.term most rest below chained.1) refl
 
 -- a list in order, in front of it a term that is at most each
 rises-cons : (e : Entry) (es : List Entry) → All (λ f. e.term ≤ f.term) es → IsNonDecreasingBy (λ f. f.term) es → IsNonDecreasingBy (λ f. f.term) (e ∷ es)

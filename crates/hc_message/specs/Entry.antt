@@ -1,18 +1,12 @@
--- Entries of the log without their bodies: which are valid, and the 18 bytes of each.
-use Rattle.std.specs.Prelude.{ℕ, ◌<◌, ◌≤◌, ◌^◌, Bool, true, false, List, [], ◌∷◌, ◌++◌}
+-- Entries of the log without their bodies: which are valid, and the bytes of each.
+use Rattle.std.specs.Prelude.{ℕ, ◌≤◌, Bool, true, false, List, [], ◌∷◌, ◌++◌}
 use Rattle.r2_base.specs.declared.rid.Rid.{Rid}
 use Rattle.r2_base.specs.declared.entry.Kind.{Kind}
 use Rattle.r2_base.specs.declared.entry.Kind.TheVariants.{Blank, Write, Read}
 use Rattle.r2_base.specs.declared.entry.Entry.{Entry}
 use Rattle.r2_base.specs.Numbers.{u16_bytes, u32_bytes, u64_bytes}
-use Rattle.hc_entry.specs.Entry.{NamesReplier}
-use Rattle.hc_entry.specs.Limits.{greatest_member, greatest_number}
-
--- the numbers of a request id fit the fields that hold them
-pub record FitsRid (r : Rid) : Type 0 where
-  pub ip : r.client.ip < 2 ^ 32
-  pub port : r.client.port < 2 ^ 16
-  pub id : r.id < 2 ^ 16
+use Rattle.r2_base.specs.Entry.{NamesReplier}
+use Rattle.r2_base.specs.Limits.{greatest_member, greatest_number}
 
 -- a term that a leader may have
 pub record IsTerm (n : ℕ) : Type 0 where
@@ -43,10 +37,14 @@ kind_number Blank = 0
 kind_number Write = 1
 kind_number Read = 2
 
--- a request id in eight bytes: ip, port and number
-unfoldable pub rid_bytes : Rid → List ℕ
-rid_bytes r = u32_bytes r.client.ip ++ u16_bytes r.client.port ++ u16_bytes r.id
+-- a request id in eight bytes, the narrow layout: ip, port and number
+unfoldable pub narrow_rid_bytes : Rid → List ℕ
+narrow_rid_bytes r = u32_bytes r.client.ip ++ u16_bytes r.client.port ++ u16_bytes r.id
 
--- an entry in 18 bytes: term, kind, request id and replier
-unfoldable pub entry_bytes : Entry → List ℕ
-entry_bytes e = u64_bytes e.term ++ kind_number e.kind ∷ rid_bytes e.rid ++ e.replier ∷ []
+-- how many bytes an entry has in the narrow layout
+abbrev pub narrow_entry_size : ℕ
+narrow_entry_size = 18
+
+-- an entry in the narrow layout: term, kind, request id and replier
+unfoldable pub narrow_entry_bytes : Entry → List ℕ
+narrow_entry_bytes e = u64_bytes e.term ++ kind_number e.kind ∷ narrow_rid_bytes e.rid ++ e.replier ∷ []

@@ -1,5 +1,5 @@
 -- The faults of fields and messages, and what a person reads of them.
-use Rattle.std.specs.Prelude.{ℕ, List, codes}
+use Rattle.std.specs.Prelude.{ℕ, Bool, true, false, List, codes}
 use Rattle.hc_message.specs.declared.field_fault.FieldFault.{FieldFault}
 use Rattle.hc_message.specs.declared.field_fault.FieldFault.TheVariants as field
 use Rattle.hc_message.specs.declared.msg_fault.MsgFault.{MsgFault}
@@ -9,6 +9,14 @@ use Rattle.hc_message.specs.declared.msg_fault.MsgFault.TheVariants.{Short, Tag,
 abbrev pub msg_fault_of : FieldFault → MsgFault
 msg_fault_of field.Short = Short
 msg_fault_of field.Range = Range
+
+-- whether a fault is a want of memory
+abbrev pub is_memory : MsgFault → Bool
+is_memory Short = false
+is_memory Tag = false
+is_memory Range = false
+is_memory Extra = false
+is_memory Memory = true
 
 -- why the bytes in front aren't a field
 abbrev pub field_fault_text : FieldFault → List ℕ

@@ -1,19 +1,19 @@
-//! The fields in front of bytes: each reader gives the field's value and the bytes behind it.
+//! The fields that bytes begin with: each reader gives the field's value and the bytes after it. And how entries are written.
 
-ghost use Rattle.std.specs.Prelude.{◌≡◌};
-ghost use Rattle.hc_message.specs.Entry.{FitsRid, entry_bytes, kind_number};
-ghost use Rattle.hc_message.specs.Fields.{Gives, byte_at, entry_at, flag_at, kind_at, kind_of, number_at, replier_at, rid_at, rid_of_kind_at, small_at, u16_at, u32_at, u64_at};
+ghost use Rattle.std.specs.Prelude.{◌≡◌, ◌++◌, OnOk};
+ghost use Rattle.r2_base.specs.Names.{FitsRid};
+ghost use Rattle.hc_message.specs.Entry.{kind_number, narrow_entry_bytes, narrow_rid_bytes};
+ghost use Rattle.hc_message.specs.Fields.{Gives, front_byte, front_entry, front_flag, front_kind, kind_of, front_number, front_replier, front_rid, front_rid_of_kind, front_small, front_u16, front_u32, front_u64};
 
 use crate::FieldFault;
-use hc_entry::{GREATEST_MEMBER, NO_REPLIER, is_no_rid, is_request};
-use r2_base::{Addr, Entry, Kind, Rid, split_u16, split_u32, split_u64};
-
-/// The number of bytes of an entry without its body.
-pub const ENTRY_SIZE: usize = 18;
+use r2_base::{
+    Addr, Entry, GREATEST_MEMBER, Kind, NO_REPLIER, NoMemory, Rid, is_no_rid, is_request, push_u16,
+    push_u32, push_u64, split_u16, split_u32, split_u64,
+};
 
 /// One byte.
-pub fn byte_at(bytes: &[u8]) -> Result<(u8, &[u8]), FieldFault>
-    ensures { Gives (λ x. (x.0, x.1.now)) result (byte_at bytes.now) }
+pub fn front_byte(bytes: &[u8]) -> Result<(u8, &[u8]), FieldFault>
+    ensures { Gives (λ x. (x.0, x.1.now)) result (front_byte bytes.now) }
 {
     match bytes {
         [] => Err(FieldFault::Short),
@@ -22,9 +22,9 @@ pub fn byte_at(bytes: &[u8]) -> Result<(u8, &[u8]), FieldFault>
 }
 
 /// A number in two bytes.
-#[tactic(auto, using(crate::proofs::Numbers::u16_at_first, crate::proofs::Numbers::u16_at_short))]
-pub fn u16_at(bytes: &[u8]) -> Result<(u16, &[u8]), FieldFault>
-    ensures { Gives (λ x. (x.0, x.1.now)) result (u16_at bytes.now) }
+#[tactic(auto, using(crate::proofs::Numbers::front_u16_first, crate::proofs::Numbers::front_u16_short))]
+pub fn front_u16(bytes: &[u8]) -> Result<(u16, &[u8]), FieldFault>
+    ensures { Gives (λ x. (x.0, x.1.now)) result (front_u16 bytes.now) }
 {
     match split_u16(bytes) {
         Some((number, rest)) => Ok((number, rest)),
@@ -33,9 +33,9 @@ pub fn u16_at(bytes: &[u8]) -> Result<(u16, &[u8]), FieldFault>
 }
 
 /// A number in four bytes.
-#[tactic(auto, using(crate::proofs::Numbers::u32_at_first, crate::proofs::Numbers::u32_at_short))]
-pub fn u32_at(bytes: &[u8]) -> Result<(u32, &[u8]), FieldFault>
-    ensures { Gives (λ x. (x.0, x.1.now)) result (u32_at bytes.now) }
+#[tactic(auto, using(crate::proofs::Numbers::front_u32_first, crate::proofs::Numbers::front_u32_short))]
+pub fn front_u32(bytes: &[u8]) -> Result<(u32, &[u8]), FieldFault>
+    ensures { Gives (λ x. (x.0, x.1.now)) result (front_u32 bytes.now) }
 {
     match split_u32(bytes) {
         Some((number, rest)) => Ok((number, rest)),
@@ -44,9 +44,9 @@ pub fn u32_at(bytes: &[u8]) -> Result<(u32, &[u8]), FieldFault>
 }
 
 /// A number in eight bytes.
-#[tactic(auto, using(crate::proofs::Numbers::u64_at_first, crate::proofs::Numbers::u64_at_short))]
-pub fn u64_at(bytes: &[u8]) -> Result<(u64, &[u8]), FieldFault>
-    ensures { Gives (λ x. (x.0, x.1.now)) result (u64_at bytes.now) }
+#[tactic(auto, using(crate::proofs::Numbers::front_u64_first, crate::proofs::Numbers::front_u64_short))]
+pub fn front_u64(bytes: &[u8]) -> Result<(u64, &[u8]), FieldFault>
+    ensures { Gives (λ x. (x.0, x.1.now)) result (front_u64 bytes.now) }
 {
     match split_u64(bytes) {
         Some((number, rest)) => Ok((number, rest)),
@@ -55,11 +55,11 @@ pub fn u64_at(bytes: &[u8]) -> Result<(u64, &[u8]), FieldFault>
 }
 
 /// A number from `least` to `most` in eight bytes.
-#[tactic(auto, unfolding(crate::specs::Fields::number_at))]
-pub fn number_at(bytes: &[u8], least: u64, most: u64) -> Result<(u64, &[u8]), FieldFault>
-    ensures { Gives (λ x. (x.0, x.1.now)) result (number_at least most bytes.now) }
+#[tactic(auto, unfolding(crate::specs::Fields::front_number))]
+pub fn front_number(bytes: &[u8], least: u64, most: u64) -> Result<(u64, &[u8]), FieldFault>
+    ensures { Gives (λ x. (x.0, x.1.now)) result (front_number least most bytes.now) }
 {
-    let (number, rest) = u64_at(bytes)?;
+    let (number, rest) = front_u64(bytes)?;
     if number < least {
         return Err(FieldFault::Range);
     }
@@ -70,11 +70,11 @@ pub fn number_at(bytes: &[u8], least: u64, most: u64) -> Result<(u64, &[u8]), Fi
 }
 
 /// A number from `least` to `most` in one byte.
-#[tactic(auto, unfolding(crate::specs::Fields::small_at))]
-pub fn small_at(bytes: &[u8], least: u8, most: u8) -> Result<(u8, &[u8]), FieldFault>
-    ensures { Gives (λ x. (x.0, x.1.now)) result (small_at least most bytes.now) }
+#[tactic(auto, unfolding(crate::specs::Fields::front_small))]
+pub fn front_small(bytes: &[u8], least: u8, most: u8) -> Result<(u8, &[u8]), FieldFault>
+    ensures { Gives (λ x. (x.0, x.1.now)) result (front_small least most bytes.now) }
 {
-    let (number, rest) = byte_at(bytes)?;
+    let (number, rest) = front_byte(bytes)?;
     if number < least {
         return Err(FieldFault::Range);
     }
@@ -85,11 +85,11 @@ pub fn small_at(bytes: &[u8], least: u8, most: u8) -> Result<(u8, &[u8]), FieldF
 }
 
 /// Yes or no.
-#[tactic(auto, unfolding(crate::specs::Fields::flag_at))]
-pub fn flag_at(bytes: &[u8]) -> Result<(bool, &[u8]), FieldFault>
-    ensures { Gives (λ x. (x.0, x.1.now)) result (flag_at bytes.now) }
+#[tactic(auto, unfolding(crate::specs::Fields::front_flag))]
+pub fn front_flag(bytes: &[u8]) -> Result<(bool, &[u8]), FieldFault>
+    ensures { Gives (λ x. (x.0, x.1.now)) result (front_flag bytes.now) }
 {
-    let (number, rest) = small_at(bytes, 0, 1)?;
+    let (number, rest) = front_small(bytes, 0, 1)?;
     Ok((number == 1, rest))
 }
 
@@ -105,32 +105,32 @@ fn kind_of(number: u8) -> Kind
 }
 
 /// A kind with a number from `least` on.
-#[tactic(auto, unfolding(crate::specs::Fields::kind_at))]
-pub fn kind_at(bytes: &[u8], least: u8) -> Result<(Kind, &[u8]), FieldFault>
-    ensures { Gives (λ x. (x.0, x.1.now)) result (kind_at least bytes.now) }
+#[tactic(auto, unfolding(crate::specs::Fields::front_kind))]
+pub fn front_kind(bytes: &[u8], least: u8) -> Result<(Kind, &[u8]), FieldFault>
+    ensures { Gives (λ x. (x.0, x.1.now)) result (front_kind least bytes.now) }
 {
-    let (number, rest) = small_at(bytes, least, 2)?;
+    let (number, rest) = front_small(bytes, least, 2)?;
     Ok((kind_of(number), rest))
 }
 
 /// A request id.
-#[tactic(auto, unfolding(crate::specs::Fields::rid_at))]
-fn rid_at(bytes: &[u8]) -> Result<(Rid, &[u8]), FieldFault>
-    ensures { Gives (λ x. (x.0, x.1.now)) result (rid_at bytes.now) }
+#[tactic(auto, unfolding(crate::specs::Fields::front_rid))]
+fn front_rid(bytes: &[u8]) -> Result<(Rid, &[u8]), FieldFault>
+    ensures { Gives (λ x. (x.0, x.1.now)) result (front_rid bytes.now) }
 {
-    let (ip, rest) = u32_at(bytes)?;
-    let (port, rest) = u16_at(rest)?;
-    let (id, rest) = u16_at(rest)?;
+    let (ip, rest) = front_u32(bytes)?;
+    let (port, rest) = front_u16(rest)?;
+    let (id, rest) = front_u16(rest)?;
     let client = Addr { ip, port };
     Ok((Rid { id, client }, rest))
 }
 
 /// The request id of an entry of this kind, which is zero where it has no request.
-#[tactic(auto, unfolding(crate::specs::Fields::rid_of_kind_at))]
-fn rid_of_kind_at(bytes: &[u8], kind: Kind) -> Result<(Rid, &[u8]), FieldFault>
-    ensures { Gives (λ x. (x.0, x.1.now)) result (rid_of_kind_at kind bytes.now) }
+#[tactic(auto, unfolding(crate::specs::Fields::front_rid_of_kind))]
+fn front_rid_of_kind(bytes: &[u8], kind: Kind) -> Result<(Rid, &[u8]), FieldFault>
+    ensures { Gives (λ x. (x.0, x.1.now)) result (front_rid_of_kind kind bytes.now) }
 {
-    let (rid, rest) = rid_at(bytes)?;
+    let (rid, rest) = front_rid(bytes)?;
     if is_request(kind) {
         return Ok((rid, rest));
     }
@@ -141,26 +141,26 @@ fn rid_of_kind_at(bytes: &[u8], kind: Kind) -> Result<(Rid, &[u8]), FieldFault>
 }
 
 /// The replier of an entry of this kind.
-#[tactic(auto, unfolding(crate::specs::Fields::replier_at))]
-fn replier_at(bytes: &[u8], kind: Kind) -> Result<(u8, &[u8]), FieldFault>
-    ensures { Gives (λ x. (x.0, x.1.now)) result (replier_at kind bytes.now) }
+#[tactic(auto, unfolding(crate::specs::Fields::front_replier))]
+fn front_replier(bytes: &[u8], kind: Kind) -> Result<(u8, &[u8]), FieldFault>
+    ensures { Gives (λ x. (x.0, x.1.now)) result (front_replier kind bytes.now) }
 {
     if is_request(kind) {
-        small_at(bytes, 0, GREATEST_MEMBER)
+        front_small(bytes, 0, GREATEST_MEMBER)
     } else {
-        small_at(bytes, NO_REPLIER, NO_REPLIER)
+        front_small(bytes, NO_REPLIER, NO_REPLIER)
     }
 }
 
-/// An entry without its body in 18 bytes, whose term is from `least` to `most`.
-#[tactic(auto, unfolding(crate::specs::Fields::entry_at))]
-pub fn entry_at(bytes: &[u8], least: u64, most: u64) -> Result<(Entry, &[u8]), FieldFault>
-    ensures { Gives (λ x. (x.0, x.1.now)) result (entry_at least most bytes.now) }
+/// An entry without its body, whose term is from `least` to `most`.
+#[tactic(auto, unfolding(crate::specs::Fields::front_entry))]
+pub fn front_entry(bytes: &[u8], least: u64, most: u64) -> Result<(Entry, &[u8]), FieldFault>
+    ensures { Gives (λ x. (x.0, x.1.now)) result (front_entry least most bytes.now) }
 {
-    let (term, rest) = number_at(bytes, least, most)?;
-    let (kind, rest) = kind_at(rest, 0)?;
-    let (rid, rest) = rid_of_kind_at(rest, kind)?;
-    let (replier, rest) = replier_at(rest, kind)?;
+    let (term, rest) = front_number(bytes, least, most)?;
+    let (kind, rest) = front_kind(rest, 0)?;
+    let (rid, rest) = front_rid_of_kind(rest, kind)?;
+    let (replier, rest) = front_replier(rest, kind)?;
     let entry = Entry {
         term,
         kind,
@@ -181,37 +181,28 @@ pub fn kind_number(kind: Kind) -> u8
     }
 }
 
-/// An entry without its body in its 18 bytes.
-#[tactic(auto, unfolding(crate::specs::Entry::entry_bytes, crate::specs::Entry::rid_bytes, r2_base::specs::Numbers::u16_bytes, r2_base::specs::Numbers::u32_bytes, r2_base::specs::Numbers::u64_bytes))]
-pub fn entry_bytes(entry: &Entry) -> [u8; ENTRY_SIZE]
-    ensures bytes { result ≡ entry_bytes entry.now }
-    ensures fits { FitsRid entry.now.rid }
+/// Appends a request id.
+#[tactic(auto, unfolding(crate::specs::Entry::narrow_rid_bytes), using(std::proofs::Common::append_assoc))]
+fn push_rid(out: &mut Vec<u8>, rid: Rid) -> Result<(), NoMemory>
+    ensures written { OnOk result (out.new.items ≡ out.old.items ++ narrow_rid_bytes rid) }
+    ensures fits { FitsRid rid }
 {
-    let Addr { ip, port } = entry.rid.client;
-    let id = entry.rid.id;
-    let [t0, t1, t2, t3, t4, t5, t6, t7] = entry.term.to_be_bytes();
-    let [a, b, c, d] = ip.to_be_bytes();
-    let [p0, p1] = port.to_be_bytes();
-    let [n0, n1] = id.to_be_bytes();
-    let kind = kind_number(entry.kind);
-    [
-        t0,
-        t1,
-        t2,
-        t3,
-        t4,
-        t5,
-        t6,
-        t7,
-        kind,
-        a,
-        b,
-        c,
-        d,
-        p0,
-        p1,
-        n0,
-        n1,
-        entry.replier,
-    ]
+    let Addr { ip, port } = rid.client;
+    let id = rid.id;
+    push_u32(out, ip)?;
+    push_u16(out, port)?;
+    push_u16(out, id)
+}
+
+/// Appends an entry without its body.
+#[tactic(auto, unfolding(crate::specs::Entry::narrow_entry_bytes), using(std::proofs::Common::append_assoc))]
+pub fn push_entry(out: &mut Vec<u8>, entry: &Entry) -> Result<(), NoMemory>
+    ensures written { OnOk result (out.new.items ≡ out.old.items ++ narrow_entry_bytes entry.now) }
+    ensures fits { OnOk result (FitsRid entry.now.rid) }
+{
+    push_u64(out, entry.term)?;
+    out.push(kind_number(entry.kind))?;
+    push_rid(out, entry.rid)?;
+    out.push(entry.replier)?;
+    Ok(())
 }

@@ -1,6 +1,6 @@
 //! What holds of the messages and of their reading.
 
-ghost use Rattle.hc_message.specs.Laws.{BytesBehindAreExtra, ExtraIsBehindAMessage, NoBytesWantMemory, SpellingIsRead, SpellingsAreShort, WhatIsReadIsSpelled};
+ghost use Rattle.hc_message.specs.Laws.{BytesBehindAreExtra, ExtraIsBehindAMessage, NoBytesWantMemory, PrefixesAreShort, RangeStays, SpellingIsRead, SpellingsAreShort, TagIsTheFirstByte, WhatIsReadIsSpelled};
 
 /// The reader takes a valid message's bytes.
 pub fn a_spelling_is_read()
@@ -12,7 +12,7 @@ pub fn what_is_read_is_spelled()
     ensures { WhatIsReadIsSpelled }
 {}
 
-/// Bytes behind a valid message are told as Extra; a body goes to the end, so none stand behind it.
+/// Bytes after a valid message are told as Extra; a body goes to the end, so none stand after it.
 pub fn bytes_behind_are_extra()
     ensures { BytesBehindAreExtra }
 {}
@@ -30,4 +30,19 @@ pub fn no_bytes_want_memory()
 /// No message is longer than its greatest number of bytes.
 pub fn spellings_are_short()
     ensures { SpellingsAreShort }
+{}
+
+/// The fault is Tag exactly where the first byte is no message's tag.
+pub fn tag_is_the_first_byte()
+    ensures { TagIsTheFirstByte }
+{}
+
+/// A message that is cut short is told as Short. A body goes to the end, so it is cut short only before its kind.
+pub fn prefixes_are_short()
+    ensures { PrefixesAreShort }
+{}
+
+/// What is out of its range stays so, whatever bytes come after it: a longer body, too, is too long.
+pub fn range_stays()
+    ensures { RangeStays }
 {}

@@ -6,6 +6,7 @@ pub mod fields;
 pub mod laws;
 mod msg;
 mod msg_fault;
+mod order_head;
 mod reading;
 mod writing;
 

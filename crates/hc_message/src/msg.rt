@@ -17,7 +17,7 @@ pub enum Msg {
         member: u8,
         granted: bool,
     },
-    /// A leader orders entries behind the one at `prev_index` (Raft's AppendEntries, without bodies).
+    /// A leader orders entries after the one at `prev_index` (Raft's AppendEntries, without bodies).
     Order {
         term: u64,
         leader: u8,

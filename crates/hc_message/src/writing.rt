@@ -1,22 +1,24 @@
 ghost use Rattle.std.specs.Prelude.{◌≡◌, ◌≤◌, [], ◌∷◌, ◌++◌, All, IfOk, OnOk, Ok, length};
 ghost use Rattle.std.specs.List.{flat_map};
 ghost use Rattle.r2_base.specs.Numbers.{u64_bytes};
-ghost use Rattle.hc_message.specs.Entry.{FitsRid, entry_bytes};
-ghost use Rattle.hc_message.specs.Laws.{FitsFields, most_bytes};
-ghost use Rattle.hc_message.specs.Message.{IsValid, Spells, spelling};
-ghost use Rattle.hc_message.specs.Reading.{message_of};
+ghost use Rattle.r2_base.specs.Limits.{most_entries};
+ghost use Rattle.r2_base.specs.Names.{FitsRid};
+ghost use Rattle.hc_message.specs.Entry.{narrow_entry_bytes};
+ghost use Rattle.hc_message.specs.Laws.{FitsMessage, most_bytes};
+ghost use Rattle.hc_message.specs.Message.{IsValid, Spells, message_bytes};
+ghost use Rattle.hc_message.specs.Reading.{decode_message};
 
 use crate::Msg;
-use crate::fields::{entry_bytes, kind_number};
+use crate::fields::{kind_number, push_entry};
 use r2_base::{Bytes, Entry, NoMemory, push_u64};
 use std::alloc::Global;
 
-/// The one spelling of `m`, which is a valid message.
+/// The bytes of `m`, which is a valid message.
 pub fn write(alloc: Global, m: &Msg) -> Result<Bytes, NoMemory>
     requires { IsValid m.now }
-    ensures written { IfOk result (λ bytes. bytes ≡ spelling m.now) }
+    ensures written { IfOk result (λ bytes. bytes ≡ message_bytes m.now) }
     ensures spelled { IfOk result (Spells m.now) }
-    ensures read_back { IfOk result (λ bytes. message_of bytes ≡ Ok m.now) }
+    ensures read_back { IfOk result (λ bytes. decode_message bytes ≡ Ok m.now) }
     ensures short { IfOk result (λ bytes. length bytes ≤ most_bytes m.now) }
 {
     let mut out = Vec::new(alloc);
@@ -25,11 +27,11 @@ pub fn write(alloc: Global, m: &Msg) -> Result<Bytes, NoMemory>
 }
 
 /// Appends the message's bytes.
-#[tactic(auto, unfolding(crate::specs::Message::spelling), using(std::proofs::Common::append_assoc))]
+#[tactic(auto, unfolding(crate::specs::Message::message_bytes), using(std::proofs::Common::append_assoc))]
 fn push_message(out: &mut Vec<u8>, m: &Msg) -> Result<(), NoMemory>
     requires { IsValid m.now }
-    ensures written { OnOk result (out.new.items ≡ out.old.items ++ spelling m.now) }
-    ensures fits { OnOk result (FitsFields m.now) }
+    ensures written { OnOk result (out.new.items ≡ out.old.items ++ message_bytes m.now) }
+    ensures fits { OnOk result (FitsMessage m.now) }
 {
     match m {
         Msg::VoteReq {
@@ -123,13 +125,13 @@ fn push_sender(out: &mut Vec<u8>, tag: u8, term: u64, member: u8) -> Result<(), 
 
 /// Appends the count of the entries, and each.
 fn push_entries(out: &mut Vec<u8>, entries: &[Entry]) -> Result<(), NoMemory>
-    requires { length entries.now ≤ 64 }
-    ensures written { OnOk result (out.new.items ≡ out.old.items ++ length entries.now ∷ flat_map entry_bytes entries.now) }
+    requires { length entries.now ≤ most_entries }
+    ensures written { OnOk result (out.new.items ≡ out.old.items ++ length entries.now ∷ flat_map narrow_entry_bytes entries.now) }
     ensures fits { OnOk result (All (λ e. FitsRid e.rid) entries.now) }
 {
     out.push(entries.len() as u8)?;
     'entries: for entry in entries.iter() {
-        out.extend_from_slice(&entry_bytes(entry))?;
+        push_entry(out, entry)?;
     }
     Ok(())
 }

@@ -9,7 +9,7 @@ use Rattle.std.proofs.lemmas.List.Quantifiers.{all_pairs_push, all_pairs_remove,
 use Rattle.std.proofs.lemmas.List.{get_or_default}
 use Rattle.std.proofs.lemmas.Option.{slice_get-get_or, slice_get_past}
 use Rattle.r2_base.specs.declared.rid.Rid.{Rid}
-use Rattle.hc_entry.proofs.Rids.{same_rid-true, same_rid-same}
+use Rattle.r2_base.proofs.SameNames.{same_rid-true, same_rid-same}
 use Rattle.hc_pool.specs.declared.request.Request.{Request}
 use Rattle.hc_pool.specs.Pool.{has_rid, request_of, waits_in, without, MayWait, IsPool}
 

@@ -1,9 +1,15 @@
 -- What a pool holds: a list of requests, the one put first in front.
-use Rattle.std.specs.Prelude.{◌≡◌, ◌≢◌, ◌≤◌, Bool, true, not, List, [], ◌∷◌, length, Option, Some, None, filter, All, AllPairs}
+use Rattle.std.specs.Prelude.{◌≡◌, ◌≢◌, ◌≤◌, ℕ, Bool, true, not, List, [], ◌∷◌, length, Option, Some, None, filter, All, AllPairs}
 use Rattle.std.specs.List.{find, list_any}
 use Rattle.r2_base.specs.declared.rid.Rid.{Rid}
-use Rattle.hc_entry.specs.Entry.{is_request, same_rid}
+use Rattle.r2_base.specs.Entry.{is_request}
+use Rattle.r2_base.specs.Names.{same_rid}
+use Rattle.r2_base.specs.Limits.{most_body}
 use Rattle.hc_pool.specs.declared.request.Request.{Request}
+
+-- a client's request is added to fewer waiting ones than these
+abbrev pub most_pooled : ℕ
+most_pooled = 4096
 
 -- whether a request has this id
 abbrev pub has_rid : Rid → Request → Bool
@@ -29,7 +35,7 @@ oldest_of (r ∷ later) = Some r.rid
 -- a request that a pool may hold
 pub record MayWait (r : Request) : Type 0 where
   pub asks : is_request r.kind ≡ true
-  pub body : length r.body ≤ 61440
+  pub body : length r.body ≤ most_body
 
 -- what a pool may hold: each request may wait, and no id stands twice
 pub record IsPool (pool : List Request) : Type 0 where

@@ -5,6 +5,6 @@ mod pool;
 mod put_fault;
 mod request;
 
-pub use pool::Pool;
+pub use pool::{MOST_POOLED, Pool};
 pub use put_fault::PutFault;
 pub use request::Request;

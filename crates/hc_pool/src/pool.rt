@@ -1,17 +1,18 @@
 ghost use Rattle.std.specs.Prelude.{◌≡◌, ◌≤◌, ◌<◌, ◌↔◌, ◌==◌, ◌++◌, ◌∷◌, [], false, true, length, position, MatchOption, is_some, option_copied, OnOk, OnErr, Err};
-ghost use Rattle.hc_entry.specs.Entry.{is_request};
-ghost use Rattle.hc_pool.specs.Pool.{has_rid, waits_in, request_of, without, oldest_of, IsPool};
+ghost use Rattle.r2_base.specs.Entry.{is_request};
+ghost use Rattle.hc_pool.specs.Pool.{has_rid, waits_in, request_of, without, oldest_of, most_pooled, IsPool};
+ghost use Rattle.r2_base.specs.Limits.{most_body};
 
 use crate::{PutFault, Request};
 use r2_base::{Bytes, Kind, NoMemory, Rid};
 use std::alloc::Global;
 use std::marker::Model;
 
-/// How many requests may wait that came from clients.
-const POOL_LIMIT: usize = 4_096;
+/// The greatest number of waiting requests to which a client's request is added.
+pub const MOST_POOLED: usize = 4_096;
 
 /// The requests that came and aren't ordered yet, the one put first in front (HovercRaft, on separating the replication of
-/// requests from their order). Each is a Write or a Read, its body has at most 61,440 bytes, and no request id stands twice.
+/// requests from their order). Each is a Write or a Read, its body has at most `MOST_BODY` bytes, and no request id stands twice.
 #[derive(Debug, Drop)]
 pub struct Pool {
     requests: Vec<Request>,
@@ -72,27 +73,27 @@ impl Pool {
         Some(request.rid)
     }
 
-    /// Puts a client's request behind the others, if fewer than 4,096 wait.
+    /// Puts a client's request after the others, if fewer than `MOST_POOLED` wait.
     pub fn put(&mut self, rid: Rid, kind: Kind, body: Bytes) -> Result<(), PutFault>
         requires is_new { waits_in rid self.old ≡ false }
         requires asks { is_request kind ≡ true }
-        requires body { length body ≤ 61440 }
+        requires body { length body ≤ most_body }
         ensures ok { OnOk result (self.new ≡ self.old ++ (record { rid = rid; kind = kind; body = body }) ∷ []) }
         ensures err { OnErr result (self.new ≡ self.old) }
-        ensures full { (result ≡ Err PutFault.Full) ↔ (4096 ≤ length self.old) }
+        ensures full { (result ≡ Err PutFault.Full) ↔ (most_pooled ≤ length self.old) }
     {
-        if self.requests.len() >= POOL_LIMIT {
+        if self.requests.len() >= MOST_POOLED {
             return Err(PutFault::Full);
         }
         self.put_back(rid, kind, body)?;
         Ok(())
     }
 
-    /// Puts a request behind the others that was cut from the log, or that another member sent.
+    /// Puts a request after the others that was cut from the log, or that another member sent. It is never full for these.
     pub fn put_back(&mut self, rid: Rid, kind: Kind, body: Bytes) -> Result<(), NoMemory>
         requires is_new { waits_in rid self.old ≡ false }
         requires asks { is_request kind ≡ true }
-        requires body { length body ≤ 61440 }
+        requires body { length body ≤ most_body }
         ensures ok { OnOk result (self.new ≡ self.old ++ (record { rid = rid; kind = kind; body = body }) ∷ []) }
         ensures err { OnErr result (self.new ≡ self.old) }
     {
@@ -144,23 +145,39 @@ mod tests {
         }
     }
 
-    #[test]
-    fn full_at_4096_and_the_others_keep_their_order(rt: HostRuntime) -> Result<(), Fail> {
-        let alloc = rt.alloc();
-        let mut pool = Pool::new(alloc);
-        for id in 0..4_097 {
-            let body = Bytes::from_vec(b"G".to_vec(alloc)?);
+    /// Puts requests with these numbers, each with a body of one byte, as far as the pool takes them from a client.
+    fn fill(pool: &mut Pool, alloc: Global, ids: u16) -> Result<(), PutFault> {
+        for id in 0..ids {
             let new = rid(id);
             if pool.get(&new).is_none() {
-                let put = pool.put(new, Kind::Read, body);
-                assert_eq!(rt; put.err(), (id == 4_096).then_some(PutFault::Full));
+                let body = Bytes::from_vec(b"G".to_vec(alloc).map_err(|_| PutFault::Memory)?);
+                pool.put(new, Kind::Read, body)?;
             }
         }
+        Ok(())
+    }
+
+    #[test]
+    fn a_full_pool_takes_what_is_put_back(rt: HostRuntime) -> Result<(), Fail> {
+        let alloc = rt.alloc();
+        let mut pool = Pool::new(alloc);
+        assert_eq!(rt; fill(&mut pool, alloc, 4_097), Err(PutFault::Full));
         assert_eq!(rt; pool.len(), 4_096);
         let late = rid(5_000);
         if pool.get(&late).is_none() {
             pool.put_back(late, Kind::Write, Bytes::new(alloc))?;
         }
+        assert_eq!(rt; pool.len(), 4_097);
+        let (kind, body) = pool.get(&late).ok_or("waits")?;
+        assert_eq!(rt; (kind, body.len()), (Kind::Write, 0));
+        Ok(())
+    }
+
+    #[test]
+    fn the_others_keep_their_order(rt: HostRuntime) -> Result<(), Fail> {
+        let alloc = rt.alloc();
+        let mut pool = Pool::new(alloc);
+        fill(&mut pool, alloc, 4)?;
         let (kind, body) = pool.take(&rid(1)).ok_or("waits")?;
         assert_eq!(rt; (kind, body.as_slice()), (Kind::Read, b"G".as_slice()));
         assert!(rt; pool.take(&rid(1)).is_none());
@@ -169,9 +186,7 @@ mod tests {
             assert_eq!(rt; oldest, rid(want));
             assert!(rt; pool.take(&oldest).is_some());
         }
-        let (kind, body) = pool.get(&late).ok_or("waits")?;
-        assert_eq!(rt; (kind, body.len()), (Kind::Write, 0));
-        assert_eq!(rt; (pool.len(), pool.is_empty()), (4_093, false));
+        assert!(rt; pool.is_empty());
         Ok(())
     }
 }

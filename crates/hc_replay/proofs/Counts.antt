@@ -7,7 +7,7 @@ use Rattle.std.proofs.lemmas.List.Sums.{sum_by-append, sum_by-cons}
 use Rattle.r2_base.specs.declared.entry.Kind.{Kind}
 use Rattle.r2_base.specs.declared.entry.Kind.TheVariants.{Blank, Write, Read}
 use Rattle.hc_log.specs.declared.stored.Stored.{Stored}
-use Rattle.hc_entry.specs.Entry.{is_request}
+use Rattle.r2_base.specs.Entry.{is_request}
 use Rattle.hc_log.specs.Log.{requests_of}
 use Rattle.hc_log.proofs.Counting.{requests_of-append}
 use Rattle.hc_replay.specs.Operations.{is_write, writes_of, is_read, own_reads_of}

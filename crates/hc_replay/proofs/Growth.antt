@@ -14,11 +14,11 @@ use Rattle.hc_pool.specs.Pool.{waits_in}
 use Rattle.hc_replay.specs.Queues.{choose}
 use Rattle.hc_replay.specs.Member.{IsSound}
 use Rattle.hc_replay.specs.declared.heard.Heard.{Heard}
-use Rattle.hc_replay.specs.declared.heard.Heard.TheVariants.{Nothing, Whole, Time}
-use Rattle.hc_replay.specs.Heard.{IsShortHeard, hear}
-use Rattle.hc_replay.specs.Turn.{Outcome, finished, pooled, waited, is_impatient, stood, won, ticked, row, tick_row, order_to, order_from, order_next, gone_on, ordered, ordering, counting, batched, settled, stored_of, request_row, answered_again, stays, hearing, Reacted, reacted_to, reacted, turned}
-use Rattle.hc_replay.proofs.ShortHearing.{hear_short}
-use Rattle.hc_replay.proofs.Sound.{sound-finished, sound-hearing, sound-row, sound-settled}
+use Rattle.hc_replay.specs.declared.heard.Heard.TheVariants.{Nothing, Whole, Tick}
+use Rattle.hc_replay.specs.Heard.{IsShortHeard, receive}
+use Rattle.hc_replay.specs.Turn.{Outcome, finished, pooled, waited, is_impatient, stood, won, ticked, row, tick_row, order_to, order_from, order_next, gone_on, ordered, ordering, counting, batched, settled, stored_of, request_row, answered_again, stays, with_received, Reacted, reacted_to, reacted, turned}
+use Rattle.hc_replay.proofs.ShortReceived.{received_short}
+use Rattle.hc_replay.proofs.Sound.{sound-finished, sound-with_received, sound-row, sound-settled}
 
 pooled_by-log : (b : Bool) (m : Member) (r : Request) → (if b then m else record m { pool = m.pool ++ r ∷ [] }).log ≡ m.log
 pooled_by-log true m r = refl
@@ -74,7 +74,7 @@ pub row-grows : (s : Setup) (m : Member) (said : Heard) → Grows m (row s m sai
 unfolding row
 row-grows s m Nothing = record { log = same_log m m refl; keep = refl }
 row-grows s m (Whole r) = request_row-grows s m r
-row-grows s m Time = tick_row-grows s m m.role
+row-grows s m Tick = tick_row-grows s m m.role
 
 -- a log that got longer by so many entries at most
 pub record UpTo (most : ℕ) (m n : Member) : Type 0 where
@@ -167,7 +167,7 @@ module _ (s : Setup) (m : Member) (event : Event) (sound : IsSound s m) where
   -- a reaction leaves a sound member
   pub sound-reacted : IsSound s (reacted s m event).member
   unfolding reacted
-  sound-reacted = sound-reacted_to s (hearing m event) (hear m.unfinished event).said (hear_short m.unfinished event sound.unfinished).0 (sound-hearing s m event sound)
+  sound-reacted = sound-reacted_to s (with_received m event) (receive m.unfinished event).said (received_short m.unfinished event sound.unfinished).0 (sound-with_received s m event sound)
 
 module _ (s : Setup) (m : Member) (event : Event) (sound : IsSound s m) where
   -- a turn leaves a sound member

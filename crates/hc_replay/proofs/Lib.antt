@@ -1,9 +1,8 @@
 pub mod Counts
-pub mod Values
 pub mod Applying
 pub mod Replayed
 pub mod Answering
-pub mod ShortHearing
+pub mod ShortReceived
 pub mod Ordering
 pub mod Sound
 pub mod Growth
@@ -17,6 +16,7 @@ pub mod Batches
 pub mod Runs
 pub mod Advance
 pub mod Endings
+pub mod Entries
 pub mod Replays
 pub mod Scripts
 pub mod OneThread

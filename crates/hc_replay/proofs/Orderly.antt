@@ -6,12 +6,14 @@ use Rattle.std.proofs.lemmas.Bool.{and_parts, or_parts, cases_Bool, ltb-true}
 use Rattle.std.proofs.lemmas.List.{take_all, take_at, take-take, length-set, length-replicate, length_push}
 use Rattle.std.proofs.lemmas.List.Elements.{All-push, All-drop, All-head, All-tail, All-weaker}
 use Rattle.std.proofs.lemmas.List.Quantifiers.{position-Some}
+use Rattle.r2_base.specs.Limits.{most_body}
 use Rattle.r2_base.specs.declared.event.Event.{Event}
 use Rattle.r2_base.specs.declared.rid.Rid.{Rid}
 use Rattle.r2_base.specs.declared.entry.Kind.{Kind}
 use Rattle.r2_base.specs.declared.entry.Kind.TheVariants.{Blank, Write, Read}
-use Rattle.hc_entry.specs.Entry.{is_request, same_rid, NamesReplier}
-use Rattle.hc_entry.proofs.Rids.{same_rid-true}
+use Rattle.r2_base.specs.Entry.{is_request, NamesReplier}
+use Rattle.r2_base.specs.Names.{same_rid}
+use Rattle.r2_base.proofs.SameNames.{same_rid-true}
 use Rattle.hc_log.specs.declared.stored.Stored.{Stored}
 use Rattle.hc_log.specs.Ranges.{FitsKind}
 use Rattle.hc_log.specs.Log.{blank_of, last_term, asks_as, stands_in, requests_of, has_room, MayFollow}
@@ -26,13 +28,13 @@ use Rattle.hc_replay.specs.declared.member.Member.{Member}
 use Rattle.hc_replay.specs.declared.member.Role.{Role}
 use Rattle.hc_replay.specs.declared.member.Role.TheVariants.{Follower, Candidate, Leader}
 use Rattle.hc_replay.specs.declared.heard.Heard.{Heard}
-use Rattle.hc_replay.specs.declared.heard.Heard.TheVariants.{Nothing, Whole, Time}
+use Rattle.hc_replay.specs.declared.heard.Heard.TheVariants.{Nothing, Whole, Tick}
 use Rattle.hc_replay.specs.Heard.{IsShortHeard}
 use Rattle.hc_replay.specs.Durable.{durable_of}
 use Rattle.hc_replay.specs.Member.{AreOrderly, IsOrderly}
 use Rattle.hc_replay.specs.Replay.{IsAlone}
 use Rattle.hc_replay.specs.Queues.{fewest, choose}
-use Rattle.hc_replay.specs.Turn.{batched, due, pooled, request_row, answered_again, stays, hearing, waited, is_impatient, patience, stood, won, ticked, row, tick_row, entry_of, order_to, order_from, order_next, gone_on, ordered, ordering, counting, settled}
+use Rattle.hc_replay.specs.Turn.{batched, due, pooled, request_row, answered_again, stays, with_received, waited, is_impatient, patience, stood, won, ticked, row, tick_row, entry_of, order_to, order_from, order_next, gone_on, ordered, ordering, counting, settled}
 use Rattle.hc_replay.proofs.Ordering.{has_room-parts}
 
 -- a durable state comes behind another: its term isn't lower, a term keeps its vote, and the log still begins as it was
@@ -113,7 +115,7 @@ names_by Blank rid replier asks within = cc
 names_by Write rid replier asks within = within
 names_by Read rid replier asks within = within
 
-fits_by : (kind : Kind) (body : List ℕ) → is_request kind ≡ true → length body ≤ 61440 → FitsKind kind body
+fits_by : (kind : Kind) (body : List ℕ) → is_request kind ≡ true → length body ≤ most_body → FitsKind kind body
 fits_by Blank body asks short = cc
 fits_by Write body asks short = short
 fits_by Read body asks short = short
@@ -208,9 +210,9 @@ module _ (s : Setup) (alone : IsAlone s) where
   goes-request m r may h = goes-request_by (stands_in r.rid m.log) m r refl may h
 
   -- a member that heard an event
-  pub goes-hearing : (m : Member) (event : Event) → IsOrderly m → Goes m (hearing m event)
-  unfolding hearing
-  goes-hearing m event h = goes-same m h
+  pub goes-with_received : (m : Member) (event : Event) → IsOrderly m → Goes m (with_received m event)
+  unfolding with_received
+  goes-with_received m event h = goes-same m h
 
   goes-waited_by : (b : Bool) (m : Member) → IsOrderly m → AreOrderly (durable_of m) (if b then drop 1 m.pool else m.pool) m.queues
   goes-waited_by true m h =
@@ -311,7 +313,7 @@ module _ (s : Setup) (alone : IsAlone s) where
   unfolding row
   goes-row m Nothing short h = goes-same m h
   goes-row m (Whole r) short h = goes-request m r short h
-  goes-row m Time short h = goes-tick_row m m.role h
+  goes-row m Tick short h = goes-tick_row m m.role h
 
 -- the oldest request may follow the log, for the member that was chosen
 pub oldest-follows : (bound : ℕ) (m : Member) (r : Request) (rest : List Request) (replier : ℕ) → IsOrderly m → m.pool ≡ r ∷ rest → choose bound m.queues ≡ Some replier

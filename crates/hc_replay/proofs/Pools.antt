@@ -3,7 +3,7 @@ use Rattle.std.proofs.Common.{◌≡◌, true, List, [], ◌∷◌, length, Some
 use Rattle.std.specs.List.{position}
 use Rattle.std.proofs.lemmas.Bool.Decides.{nat_tests}
 use Rattle.r2_base.specs.declared.rid.Rid.{Rid}
-use Rattle.hc_entry.proofs.Rids.{same_rid-same}
+use Rattle.r2_base.proofs.SameNames.{same_rid-same}
 use Rattle.hc_pool.specs.declared.request.Request.{Request}
 use Rattle.hc_pool.specs.Pool.{has_rid, request_of, without, oldest_of, IsPool}
 use Rattle.hc_pool.proofs.Requests.{without-at}

@@ -17,16 +17,18 @@ use Rattle.hc_replay.specs.Queues.{choose}
 use Rattle.std.specs.FinMap as finite
 use Rattle.std.specs.Ordering.{nat_cmp}
 use Rattle.std.specs.Cmp.Lexicographic.{slice_cmp}
-use Rattle.hc_replay.specs.Member.{AreShort, anew, begin, restarted, IsSound}
+use Rattle.hc_replay.specs.Member.{anew, begin, restarted, IsSound}
+use Rattle.hc_service.specs.Short.{AreShort}
 use Rattle.hc_replay.specs.declared.heard.Heard.{Heard}
-use Rattle.hc_replay.specs.declared.heard.Heard.TheVariants.{Nothing, Whole, Time}
+use Rattle.hc_replay.specs.declared.heard.Heard.TheVariants.{Nothing, Whole, Tick}
 use Rattle.hc_replay.specs.Heard.{IsShortHeard}
-use Rattle.hc_replay.specs.Turn.{batched, due, batch_of, applied_all, reported, finished, pooled, request_row, answered_again, stays, hearing, waited, is_impatient, patience, stood, won, ticked, row, tick_row, order_to, order_from, order_next, gone_on, ordered, ordering, counting, settled}
+use Rattle.hc_replay.specs.Turn.{batched, due, batch_of, applied_all, reported, finished, pooled, request_row, answered_again, stays, with_received, waited, is_impatient, patience, stood, won, ticked, row, tick_row, order_to, order_from, order_next, gone_on, ordered, ordering, counting, settled}
 use Rattle.std.proofs.Common.{length-take, take, take-append-drop}
 use Rattle.std.proofs.lemmas.List.{take-append-le}
+use Rattle.r2_base.specs.Limits.{most_body}
 use Rattle.hc_replay.proofs.Applying.{Leaves, applied_all-leaves}
 use Rattle.hc_replay.proofs.Answering.{CanAnswer, applied_all-answers}
-use Rattle.hc_replay.proofs.ShortHearing.{hear_short}
+use Rattle.hc_replay.proofs.ShortReceived.{received_short}
 use Rattle.hc_replay.proofs.Ordering.{has_room-parts}
 use Rattle.hc_log.proofs.Counting.{requests_of_more}
 use Rattle.hc_replay.proofs.Counts.{one_request}
@@ -136,7 +138,7 @@ module _ (s : Setup) where
   put_in : Member → Request → Member
   put_in m r = record m { pool = m.pool ++ r ∷ [] }
 
-  sound-put_in : (m : Member) (r : Request) → length r.body ≤ 61440 → IsSound s m → IsSound s (put_in m r)
+  sound-put_in : (m : Member) (r : Request) → length r.body ≤ most_body → IsSound s m → IsSound s (put_in m r)
   unfolding put_in
   sound-put_in m r short h =
       record {
@@ -145,7 +147,7 @@ module _ (s : Setup) where
         log_fits = h.log_fits;
         term_fits = h.term_fits;
         bodies = h.bodies;
-        pool_bodies = All-push (λ (x : Request). length x.body ≤ 61440) m.pool r h.pool_bodies short;
+        pool_bodies = All-push (λ (x : Request). length x.body ≤ most_body) m.pool r h.pool_bodies short;
         unfinished = h.unfinished;
         values = h.values;
         service = h.service;
@@ -154,27 +156,27 @@ module _ (s : Setup) where
         queued = h.queued;
       }
 
-  sound-pooled_by : (b : Bool) (m : Member) (r : Request) → length r.body ≤ 61440 → IsSound s m → IsSound s (if b then m else put_in m r)
+  sound-pooled_by : (b : Bool) (m : Member) (r : Request) → length r.body ≤ most_body → IsSound s m → IsSound s (if b then m else put_in m r)
   sound-pooled_by true m r short h = h
   sound-pooled_by false m r short h = sound-put_in m r short h
 
-  pub sound-pooled : (m : Member) (r : Request) → length r.body ≤ 61440 → IsSound s m → IsSound s (pooled m r)
+  pub sound-pooled : (m : Member) (r : Request) → length r.body ≤ most_body → IsSound s m → IsSound s (pooled m r)
   unfolding pooled put_in
   sound-pooled m r short h = sound-pooled_by (waits_in r.rid m.pool || nat_le 4096 (length m.pool)) m r short h
 
-  sound-request_by : (b : Bool) (m : Member) (r : Request) → length r.body ≤ 61440 → IsSound s m → IsSound s (if b then answered_again s m r else stays m (pooled m r)).member
+  sound-request_by : (b : Bool) (m : Member) (r : Request) → length r.body ≤ most_body → IsSound s m → IsSound s (if b then answered_again s m r else stays m (pooled m r)).member
   sound-request_by true m r short h = h
   sound-request_by false m r short h = sound-pooled m r short h
 
-  sound-request : (m : Member) (r : Request) → length r.body ≤ 61440 → IsSound s m → IsSound s (request_row s m r).member
+  sound-request : (m : Member) (r : Request) → length r.body ≤ most_body → IsSound s m → IsSound s (request_row s m r).member
   unfolding request_row
   sound-request m r short h = sound-request_by (stands_in r.rid m.log) m r short h
 
   -- a member that heard an event
-  pub sound-hearing : (m : Member) (event : Event) → IsSound s m → IsSound s (hearing m event)
-  unfolding hearing
-  sound-hearing m event h =
-      let heard = hear_short m.unfinished event h.unfinished in
+  pub sound-with_received : (m : Member) (event : Event) → IsSound s m → IsSound s (with_received m event)
+  unfolding with_received
+  sound-with_received m event h =
+      let heard = received_short m.unfinished event h.unfinished in
       record {
         batch = h.batch;
         committed = h.committed;
@@ -190,8 +192,8 @@ module _ (s : Setup) where
         queued = h.queued;
       }
 
-  relieved : (b : Bool) (pool : List Request) → All (λ (r : Request). length r.body ≤ 61440) pool → All (λ (r : Request). length r.body ≤ 61440) (if b then drop 1 pool else pool)
-  relieved true pool h = All-drop (λ (r : Request). length r.body ≤ 61440) 1 pool h
+  relieved : (b : Bool) (pool : List Request) → All (λ (r : Request). length r.body ≤ most_body) pool → All (λ (r : Request). length r.body ≤ most_body) (if b then drop 1 pool else pool)
+  relieved true pool h = All-drop (λ (r : Request). length r.body ≤ most_body) 1 pool h
   relieved false pool h = h
 
   pub sound-waited : (m : Member) → IsSound s m → IsSound s (waited m)
@@ -241,7 +243,7 @@ module _ (s : Setup) where
         committed = omega (arith, long, h.committed);
         log_fits = omega (arith, long);
         term_fits = h.term_fits;
-        bodies = All-push (λ (x : Stored). length x.body ≤ 61440) m.log (blank_of m.term) h.bodies (omega arith);
+        bodies = All-push (λ (x : Stored). length x.body ≤ most_body) m.log (blank_of m.term) h.bodies (omega arith);
         pool_bodies = h.pool_bodies;
         unfinished = h.unfinished;
         values = h.values;
@@ -280,14 +282,14 @@ module _ (s : Setup) where
       let front = front-stays m.log ordered m.applied (omega (arith, h.batch, h.committed)) in
       let more = requests_of_more m.log ordered in
       let one = one_request r.kind in
-      let pool_bodies = subst (λ pool. All (λ (x : Request). length x.body ≤ 61440) pool) is h.pool_bodies in
+      let pool_bodies = subst (λ pool. All (λ (x : Request). length x.body ≤ most_body) pool) is h.pool_bodies in
       record {
         batch = h.batch;
         committed = omega (arith, long, h.committed);
         log_fits = omega (arith, long, has.entries);
         term_fits = h.term_fits;
-        bodies = All-push (λ (x : Stored). length x.body ≤ 61440) m.log ordered h.bodies (All-head (λ (x : Request). length x.body ≤ 61440) r rest pool_bodies);
-        pool_bodies = All-tail (λ (x : Request). length x.body ≤ 61440) r rest pool_bodies;
+        bodies = All-push (λ (x : Stored). length x.body ≤ most_body) m.log ordered h.bodies (All-head (λ (x : Request). length x.body ≤ most_body) r rest pool_bodies);
+        pool_bodies = All-tail (λ (x : Request). length x.body ≤ most_body) r rest pool_bodies;
         unfinished = h.unfinished;
         values = h.values;
         service = subst (λ (l : List Stored). IsReplayed s.me l m.service) front h.service;
@@ -369,8 +371,8 @@ module _ (s : Setup) where
         committed = omega (arith, h.committed, left.commit, size);
         log_fits = omega (arith, h.log_fits, size);
         term_fits = omega (arith, h.term_fits, left.term);
-        bodies = subst (λ log. All (λ (x : Stored). length x.body ≤ 61440) log) (sym left.log) h.bodies;
-        pool_bodies = subst (λ pool. All (λ (x : Request). length x.body ≤ 61440) pool) (sym left.pool) h.pool_bodies;
+        bodies = subst (λ log. All (λ (x : Stored). length x.body ≤ most_body) log) (sym left.log) h.bodies;
+        pool_bodies = subst (λ pool. All (λ (x : Request). length x.body ≤ most_body) pool) (sym left.pool) h.pool_bodies;
         unfinished = subst (All IsShort) (sym left.unfinished) h.unfinished;
         values = can.values;
         service = replayed;
@@ -382,9 +384,9 @@ module _ (s : Setup) where
   pub length-batch_of : (m : Member) → m.applied + m.pending ≤ length m.log → length (batch_of m) ≡ m.pending
   length-batch_of m within = simp (length-take, length-drop) (omega arith)
 
-  batch-short : (m : Member) → IsSound s m → All (λ (x : Stored). length x.body ≤ 61440) (batch_of m)
+  batch-short : (m : Member) → IsSound s m → All (λ (x : Stored). length x.body ≤ most_body) (batch_of m)
   batch-short m h =
-      All-take (λ (x : Stored). length x.body ≤ 61440) m.pending (drop m.applied m.log) (All-drop (λ (x : Stored). length x.body ≤ 61440) m.applied m.log h.bodies)
+      All-take (λ (x : Stored). length x.body ≤ most_body) m.pending (drop m.applied m.log) (All-drop (λ (x : Stored). length x.body ≤ most_body) m.applied m.log h.bodies)
 
   -- a batch that was applied leaves a sound member, once it is empty
   pub sound-batch : (m : Member) → IsSound s m → IsSound s (record (applied_all s m (batch_of m)).member { pending = 0 })
@@ -411,4 +413,4 @@ module _ (s : Setup) where
   unfolding row
   sound-row m Nothing short h = h
   sound-row m (Whole r) short h = sound-request m r short.body h
-  sound-row m Time short h = sound-tick_row m m.role h
+  sound-row m Tick short h = sound-tick_row m m.role h

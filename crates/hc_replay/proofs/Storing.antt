@@ -16,16 +16,16 @@ use Rattle.hc_replay.specs.declared.member.Member.{Member}
 use Rattle.hc_replay.specs.declared.member.Role.{Role}
 use Rattle.hc_replay.specs.declared.member.Role.TheVariants.{Follower, Candidate, Leader}
 use Rattle.hc_replay.specs.declared.heard.Heard.{Heard}
-use Rattle.hc_replay.specs.Heard.{IsShortHeard, hear}
+use Rattle.hc_replay.specs.Heard.{IsShortHeard, receive}
 use Rattle.hc_replay.specs.Durable.{durable_of, same_vote, LeadsTo}
 use Rattle.hc_replay.specs.Member.{AreOrderly, IsOrderly, IsSound}
 use Rattle.hc_replay.specs.Replay.{IsAlone}
-use Rattle.hc_replay.specs.Turn.{batched, due, batch_of, applied_all, reported, finished, row, settled, is_stored, stored_of, hearing, reacted_to, reacted, turned}
+use Rattle.hc_replay.specs.Turn.{batched, due, batch_of, applied_all, reported, finished, row, settled, is_stored, stored_of, with_received, reacted_to, reacted, turned}
 use Rattle.hc_replay.proofs.Applying.{Leaves, applied_all-leaves}
-use Rattle.hc_replay.proofs.ShortHearing.{hear_short}
+use Rattle.hc_replay.proofs.ShortReceived.{received_short}
 use Rattle.hc_replay.proofs.Growth.{row-grows, settled-up_to}
 use Rattle.hc_replay.proofs.Sound.{sound-finished}
-use Rattle.hc_replay.proofs.Orderly.{Behind, Goes, goes-then, goes-row, goes-settled, goes-hearing}
+use Rattle.hc_replay.proofs.Orderly.{Behind, Goes, goes-then, goes-row, goes-settled, goes-with_received}
 
 -- a member with the same durable state and the same pool, and as many queues
 pub record Keeps (m n : Member) : Type 0 where
@@ -203,15 +203,15 @@ module _ (s : Setup) (alone : IsAlone s) where
   orderly-reacted : (m : Member) (event : Event) → IsSound s m → IsOrderly m → IsOrderly (reacted s m event).member
   unfolding reacted
   orderly-reacted m event sound h =
-      let heard = hear_short m.unfinished event sound.unfinished in
-      let goes = goes-reacted_to (hearing m event) (hear m.unfinished event).said heard.0 (goes-hearing s alone m event h).orderly in
+      let heard = received_short m.unfinished event sound.unfinished in
+      let goes = goes-reacted_to (with_received m event) (receive m.unfinished event).said heard.0 (goes-with_received s alone m event h).orderly in
       goes.orderly
 
   leads-reacted : (m : Member) (event : Event) → IsSound s m → IsOrderly m → LeadsTo (durable_of m) (reacted s m event).stored (durable_of (reacted s m event).member)
-  unfolding reacted hearing
+  unfolding reacted with_received
   leads-reacted m event sound h =
-      let heard = hear_short m.unfinished event sound.unfinished in
-      leads-reacted_to (hearing m event) (hear m.unfinished event).said heard.0 (goes-hearing s alone m event h).orderly
+      let heard = received_short m.unfinished event sound.unfinished in
+      leads-reacted_to (with_received m event) (receive m.unfinished event).said heard.0 (goes-with_received s alone m event h).orderly
 
   -- a turn leaves an orderly member
   pub orderly-turned : (m : Member) (event : Event) → IsSound s m → IsOrderly m → IsOrderly (turned s m event).member

@@ -10,8 +10,8 @@ use Rattle.hc_log.specs.declared.record.Record.{Record}
 use Rattle.hc_script.specs.Printed.{out_text}
 use Rattle.hc_replay.specs.Printed.{stored_text, turn_text}
 use Rattle.hc_replay.specs.declared.heard.Heard.{Heard}
-use Rattle.hc_replay.specs.Heard.{hear}
-use Rattle.hc_replay.specs.Turn.{finished, hearing, Reacted, reacted_to, reacted, turned}
+use Rattle.hc_replay.specs.Heard.{receive}
+use Rattle.hc_replay.specs.Turn.{finished, with_received, Reacted, reacted_to, reacted, turned}
 
 -- what a turn prints may be printed in two pieces
 pub turn_text-append : (stored : Option Record) (first second : List Datagram) → turn_text stored (first ++ second) ≡ turn_text stored first ++ turn_text None second
@@ -26,13 +26,13 @@ two_pieces stored first second a b a_is b_is =
     ∙ ap (λ (x : List Datagram). turn_text stored x ++ turn_text None second) (sym a_is)
     ∙ ap (λ (x : List Datagram). turn_text stored a ++ turn_text None x) (sym b_is)
 
-module _ (s : Setup) (m n o : Member) (event : Event) (said : Heard) (at : n ≡ (finished s m).member) (heard : said ≡ (hear n.unfinished event).said) where
+module _ (s : Setup) (m n o : Member) (event : Event) (said : Heard) (at : n ≡ (finished s m).member) (heard : said ≡ (receive n.unfinished event).said) where
   -- a turn by its steps: what was pending, what is heard, the reaction
-  pub turned-steps : o ≡ hearing n event
+  pub turned-steps : o ≡ with_received n event
       → turned s m event ≡ record { member = (reacted_to s o said).member; stored = (reacted_to s o said).stored; sends = (finished s m).sends ++ (reacted_to s o said).sends }
   unfolding turned reacted
   turned-steps after =
       let by : Reacted → Reacted = λ r. record { member = r.member; stored = r.stored; sends = (finished s m).sends ++ r.sends } in
-      ap (λ (x : Member). by (reacted_to s (hearing x event) (hear x.unfinished event).said)) (sym at)
-      ∙ ap (λ (x : Member). by (reacted_to s x (hear n.unfinished event).said)) (sym after)
+      ap (λ (x : Member). by (reacted_to s (with_received x event) (receive x.unfinished event).said)) (sym at)
+      ∙ ap (λ (x : Member). by (reacted_to s x (receive n.unfinished event).said)) (sym after)
       ∙ ap (λ (h : Heard). by (reacted_to s o h)) (sym heard)

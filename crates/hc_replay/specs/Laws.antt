@@ -16,7 +16,7 @@ use Rattle.hc_replay.specs.Member.{anew, begin, own_address}
 use Rattle.hc_replay.specs.Records.{records_of}
 use Rattle.hc_replay.specs.Replay.{IsAlone}
 use Rattle.hc_replay.specs.Operations.{IsReplayed, operations}
-use Rattle.hc_replay.specs.Replies.{reply_parts}
+use Rattle.r2_frag.specs.Replies.{reply_parts}
 use Rattle.hc_replay.specs.Script.{after}
 use Rattle.hc_replay.specs.Turn.{reply_of, due, finished}
 
@@ -34,7 +34,7 @@ own_replies s log index (suc more) =
 
 -- the datagrams of a reply
 abbrev pub datagrams_of : Setup → KeptReply → List Datagram
-datagrams_of s reply = reply_parts (own_address s) reply.policy reply.rid reply.payload
+datagrams_of s reply = reply_parts (own_address s) reply.rid reply.policy reply.payload
 
 -- a member that keeps what one thread would, and gives that thread's replies to its own entries of the batch that is
 -- due, and no others

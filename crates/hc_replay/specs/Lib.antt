@@ -1,7 +1,6 @@
 pub mod Durable
 pub mod Operations
 pub mod Queues
-pub mod Replies
 pub mod Member
 pub mod Printed
 pub mod Heard

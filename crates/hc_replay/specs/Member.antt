@@ -1,20 +1,21 @@
 -- A member of a group as it begins, and what holds of every member that can be reached.
-use Rattle.std.specs.Prelude.{◌≡◌, ◌+◌, ◌<◌, ◌≤◌, ◌^◌, ℕ, false, List, [], length, take, Some, All, slice_index_or}
-use Rattle.std.specs.FinMap as map
+use Rattle.std.specs.Prelude.{◌≡◌, ◌+◌, ◌<◌, ◌≤◌, ℕ, false, List, [], length, take, All, slice_index_or}
+use Rattle.r2_base.specs.Limits.{greatest_number, most_body}
 use Rattle.r2_base.specs.declared.addr.Addr.{Addr}
 use Rattle.hc_replay.specs.declared.setup.Setup.{Setup}
 use Rattle.hc_replay.specs.declared.member.Member.{Member}
 use Rattle.hc_replay.specs.declared.member.Role.TheVariants.{Follower, Leader}
 use Rattle.r2_frag.specs.Sizes.{IsShort}
-use Rattle.hc_service.specs.Service.{Contents}
+use Rattle.hc_service.specs.Short.{AreShort}
 use Rattle.hc_service.specs.State.{new_state}
 use Rattle.hc_log.specs.Log.{stands_in, requests_of}
 use Rattle.hc_log.specs.Durable.{State, begun, IsValid}
+use Rattle.hc_log.specs.Ranges.{most_requests}
 use Rattle.hc_pool.specs.declared.request.Request.{Request}
 use Rattle.hc_pool.specs.Pool.{IsPool}
 use Rattle.hc_replay.specs.Durable.{durable_of}
 use Rattle.hc_replay.specs.Operations.{IsReplayed}
-use Rattle.hc_replay.specs.Replies.{IsAnswer}
+use Rattle.r2_frag.specs.Replies.{IsReply}
 
 -- a member that begins with this durable state; all else is new
 unfoldable pub anew : State → Member
@@ -48,23 +49,19 @@ restarted m = anew (durable_of m)
 abbrev pub own_address : Setup → Addr
 own_address s = slice_index_or s.members s.me (record { ip = 0; port = 0 })
 
--- each value fits the body of a request
-abbrev pub AreShort : Contents → Type 0
-AreShort contents = (key value : List ℕ) → map.get contents key ≡ Some value → length value ≤ 61440
-
 -- what holds of every member that can be reached
 pub record IsSound (s : Setup) (m : Member) : Type 0 where
   pub batch : m.applied + m.pending ≤ m.commit
   pub committed : m.commit ≤ length m.log
-  pub log_fits : length m.log ≤ 2 ^ 62
-  pub term_fits : m.term ≤ 2 ^ 62
-  pub bodies : All (λ stored. length stored.body ≤ 61440) m.log
-  pub pool_bodies : All (λ r. length r.body ≤ 61440) m.pool
+  pub log_fits : length m.log ≤ greatest_number
+  pub term_fits : m.term ≤ greatest_number
+  pub bodies : All (λ stored. length stored.body ≤ most_body) m.log
+  pub pool_bodies : All (λ r. length r.body ≤ most_body) m.pool
   pub unfinished : All IsShort m.unfinished
   pub values : AreShort m.service.contents
   pub service : IsReplayed s.me (take m.applied m.log) m.service
-  pub requests : requests_of m.log ≤ 1048576
-  pub replies : All IsAnswer m.kept
+  pub requests : requests_of m.log ≤ most_requests
+  pub replies : All IsReply m.kept
   pub queued : m.role ≡ Leader → length m.queues ≡ length s.members
 
 -- what holds of the durable state, the pool and the queues of every member of a group of at most 7 that can be reached:

@@ -1,20 +1,21 @@
 -- A log as the service sees it.
-use Rattle.std.specs.Prelude.{◌≡◌, ℕ, Bool, true, false, ◌==◌, ◌&&◌, List, map, count_by}
+use Rattle.std.specs.Prelude.{◌≡◌, ℕ, Bool, true, false, ◌==◌, ◌&&◌, List, count_by}
 use Rattle.std.specs.FinMap as finite
 use Rattle.r2_base.specs.declared.entry.Kind.{Kind}
 use Rattle.r2_base.specs.declared.entry.Kind.TheVariants.{Blank, Write, Read}
 use Rattle.hc_service.specs.Service.{Contents}
 use Rattle.hc_service.specs.State.{State}
+use Rattle.hc_service.specs.Operations.{operation_by, operations_of}
 use Rattle.hc_service.specs.Replies.{Operation, after_all}
 use Rattle.hc_log.specs.declared.stored.Stored.{Stored}
 
 -- an entry by its kind and the body of its request
 abbrev pub operation_of : Stored → Operation
-operation_of stored = record { kind = stored.entry.kind; body = stored.body }
+operation_of stored = operation_by (λ (s : Stored). s.entry.kind) (λ (s : Stored). s.body) stored
 
 -- the entries of a log, in their order
 unfoldable pub operations : List Stored → List Operation
-operations log = map operation_of log
+operations log = operations_of (λ (s : Stored). s.entry.kind) (λ (s : Stored). s.body) log
 
 -- what the one-thread service keeps once it served these entries in their order, from nothing
 abbrev pub contents_after : List Stored → Contents

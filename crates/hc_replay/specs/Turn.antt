@@ -22,9 +22,9 @@ use Rattle.hc_replay.specs.Member.{own_address}
 use Rattle.r2_frag.specs.declared.kept.KeptReply.{KeptReply}
 use Rattle.r2_frag.specs.Kept.{kept_with, newest}
 use Rattle.hc_replay.specs.declared.heard.Heard.{Heard}
-use Rattle.hc_replay.specs.declared.heard.Heard.TheVariants.{Nothing, Whole, Time}
-use Rattle.hc_replay.specs.Heard.{hear, policy_of}
-use Rattle.hc_replay.specs.Replies.{reply_parts}
+use Rattle.hc_replay.specs.declared.heard.Heard.TheVariants.{Nothing, Whole, Tick}
+use Rattle.hc_replay.specs.Heard.{receive, policy_of}
+use Rattle.r2_frag.specs.Replies.{reply_parts}
 
 -- the member waits with everything that is committed and not applied, 4,096 entries at most
 unfoldable pub batched : Member → Member
@@ -42,7 +42,7 @@ reply_of stored payload = record { rid = stored.entry.rid; policy = policy_of st
 -- the reply to an entry goes out where this member is its replier
 abbrev pub reply_sent : Setup → Stored → List ℕ → List Datagram
 reply_sent s stored payload =
-    if stored.entry.replier == s.me then reply_parts (own_address s) (policy_of stored.entry.kind) stored.entry.rid payload else []
+    if stored.entry.replier == s.me then reply_parts (own_address s) stored.entry.rid (policy_of stored.entry.kind) payload else []
 
 -- and is kept there
 abbrev pub reply_kept : Setup → List KeptReply → Stored → List ℕ → List KeptReply
@@ -133,7 +133,7 @@ pooled m r =
 
 -- the kept reply to a request goes out again, where one is kept
 abbrev pub resent : Setup → Request → Option KeptReply → List Datagram
-resent s r (Some reply) = reply_parts (own_address s) reply.policy r.rid reply.payload
+resent s r (Some reply) = reply_parts (own_address s) r.rid reply.policy reply.payload
 resent s r None = []
 
 -- a request that stands in the log is answered again
@@ -187,7 +187,7 @@ tick_row s m _ = stays m (ticked s m)
 unfoldable pub row : Setup → Member → Heard → Outcome
 row s m Nothing = stays m m
 row s m (Whole r) = request_row s m r
-row s m Time = tick_row s m m.role
+row s m Tick = tick_row s m m.role
 
 -- a request as an entry of the log
 abbrev pub entry_of : Request → ℕ → ℕ → Stored
@@ -266,12 +266,12 @@ reacted_to s m said =
     record { member = new; stored = stored_of m.term m.vote (length m.log) outcome.keep new; sends = outcome.sends }
 
 -- a member that heard an event: the parts that came with it are kept
-unfoldable pub hearing : Member → Event → Member
-hearing m event = record m { unfinished = (hear m.unfinished event).unfinished }
+unfoldable pub with_received : Member → Event → Member
+with_received m event = record m { unfinished = (receive m.unfinished event).unfinished }
 
 -- the reaction to an event
 unfoldable pub reacted : Setup → Member → Event → Reacted
-reacted s m event = reacted_to s (hearing m event) (hear m.unfinished event).said
+reacted s m event = reacted_to s (with_received m event) (receive m.unfinished event).said
 
 -- a whole turn: what is pending first, then the reaction
 unfoldable pub turned : Setup → Member → Event → Reacted

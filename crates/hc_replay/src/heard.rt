@@ -7,5 +7,5 @@ pub enum Heard {
     /// A request is whole.
     Whole(Request),
     /// A tick went by.
-    Time,
+    Tick,
 }

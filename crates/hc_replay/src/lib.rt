@@ -2,13 +2,13 @@
 #![tactic(auto)]
 
 mod heard;
-mod hearing;
 pub mod laws;
 mod log_steps;
 mod member;
 mod playback;
 mod print;
 mod queues;
+mod receiving;
 mod recording;
 mod replaying;
 mod replies;

@@ -1,38 +1,20 @@
 //! What a member reads of its log, and takes out of its pool.
-ghost use Rattle.std.specs.Prelude.{◌≡◌, ◌<◌, ◌≤◌, ◌∷◌, [], length, drop, slice_get, slice_index_or, Some, option_map, MatchOption, IfOk};
+ghost use Rattle.std.specs.Prelude.{◌≡◌, ◌<◌, ◌≤◌, ◌∷◌, [], length, drop, slice_get, slice_index_or, Some, option_map, MatchOption};
 ghost use Rattle.hc_log.specs.declared.stored.Stored.{Stored};
 
-use hc_log::{Entries, Log, Stored};
+use hc_log::Log;
 use hc_pool::{Pool, Request};
-use r2_base::{Bytes, Duplicate, Listed, NoMemory};
-use std::alloc::Global;
+use r2_base::{Bytes, Entry};
 
-/// The entry behind so many others.
-pub(crate) fn entry_behind(log: &Log, before: u64) -> &Stored
+/// The entry after so many others, and its body.
+pub(crate) fn entry_after(log: &Log, before: u64) -> (Entry, &Bytes)
     requires { before < length log.now }
-    ensures there { slice_get log.now before ≡ Some result.now }
-    ensures read { (d : Stored) → slice_index_or log.now before d ≡ result.now }
+    ensures there { slice_get log.now before ≡ Some (record { entry = result.0; body = result.1.now }) }
+    ensures read { (d : Stored) → slice_index_or log.now before d ≡ record { entry = result.0; body = result.1.now } }
 {
-    &log.as_slice()[before as usize]
-}
-
-fn copies(alloc: Global, entries: &[Stored]) -> Result<Vec<Stored>, NoMemory>
-    ensures { IfOk result (λ v. v.items ≡ entries.now) }
-{
-    let mut items = Vec::with_capacity(alloc, entries.len())?;
-    'entries: for stored in entries.iter() {
-        items.push(stored.duplicate(alloc)?)?;
-    }
-    Ok(items)
-}
-
-/// Copies of the entries behind the first `keep`.
-pub(crate) fn entries_behind(alloc: Global, log: &Log, keep: u64) -> Result<Entries, NoMemory>
-    requires { keep ≤ length log.now }
-    ensures { IfOk result (λ es. es ≡ drop keep log.now) }
-{
-    let entries = log.as_slice();
-    Ok(Listed::from_vec(copies(alloc, &entries[keep as usize..])?))
+    let _last = log.last();
+    let index = before + 1;
+    (log.entry(index), log.body(index))
 }
 
 /// The body of the request that was put first into a pool.

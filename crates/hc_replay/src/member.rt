@@ -3,38 +3,33 @@ ghost use Rattle.hc_log.specs.Log.{blank_of, requests_of, MayFollow};
 ghost use Rattle.hc_replay.specs.Durable.{same_vote};
 ghost use Rattle.hc_replay.specs.Turn.{entry_of};
 ghost use Rattle.std.specs.Prelude.{◌≡◌, ◌^◌, ℕ, ◌+◌, ◌-◌, ◌<◌, ◌≤◌, ◌++◌, true, false, All, length, take, slice_get, Some, IfOk, OnOk, MatchOption};
+ghost use Rattle.r2_base.specs.Limits.{greatest_number, most_body};
+ghost use Rattle.hc_service.specs.Service.{most_scanned};
+ghost use Rattle.hc_service.specs.State.{most_counted};
+ghost use Rattle.hc_log.specs.Ranges.{most_requests};
 
 use crate::heard::Heard;
-use crate::hearing::hear;
-use crate::log_steps::{drop_oldest, entries_behind, entry_behind, oldest_body, take_oldest};
+use crate::log_steps::{drop_oldest, entry_after, oldest_body, take_oldest};
 use crate::queues::Queues;
-use crate::replies::{payload_of, policy_of, reply_parts};
+use crate::receiving::receive;
+use crate::replies::policy_of;
 use crate::setup::Setup;
 use crate::turn::Turn;
 use hc_log::{Durable, Log, Record, Stored};
-use hc_pool::{Pool, PutFault, Request};
-use hc_service::{Kv, Reply, Service};
-use r2_base::{Addr, Bytes, Datagram, Datagrams, Entry, Event, Kind, Listed, NoMemory, Rid};
-use r2_frag::{Assembly, Kept};
+use hc_pool::{MOST_POOLED, Pool, PutFault, Request};
+use hc_service::{Kv, Reply, Service, payload_of};
+use r2_base::{
+    Addr, Datagram, Datagrams, Entry, Event, GREATEST_NUMBER, Kind, Listed, MOST_ENTRIES,
+    NO_REPLIER, NoMemory, Rid,
+};
+use r2_frag::{Assembly, Kept, reply_parts};
 use std::alloc::Global;
 
 /// How many entries one batch may have.
 const BATCH_LIMIT: u64 = 4_096;
 
-/// How many requests may wait in the pool.
-const POOL_LIMIT: usize = 4_096;
-
-/// How many entries a turn may append.
-const TURN_LIMIT: u64 = 64;
-
-/// Terms and indexes end here.
-const INDEX_LIMIT: u64 = 1 << 62;
-
 /// Silent ticks are counted up to here.
 const SILENCE_LIMIT: u32 = 1 << 31;
-
-/// The replier of a Blank entry: nobody.
-const NOBODY: u8 = 255;
 
 /// The part that a member has in its group (Raft, section 5.1).
 #[derive(Clone, Copy, Debug, PartialEq, Eq)]
@@ -72,17 +67,19 @@ pub struct Member {
 
 impl Member {
     ghost use Rattle.hc_pool.specs.Pool.{MayWait};
-    ghost use Rattle.hc_replay.specs.Member.{anew, begin, own_address, AreShort, IsSound, IsOrderly};
+    ghost use Rattle.hc_replay.specs.Member.{anew, begin, own_address, IsSound, IsOrderly};
+    ghost use Rattle.hc_service.specs.Short.{AreShort};
     ghost use Rattle.hc_replay.specs.Operations.{IsReplayed};
     ghost use Rattle.hc_replay.specs.Replay.{IsAlone};
-    ghost use Rattle.hc_replay.specs.Turn.{batched, due, applied_one, applied_all, batch_of, reported, finished, pooled, resent, request_row, waited, is_impatient, stood, won, ticked, row, order_next, ordered, ordering, counting, settled, stored_of, hearing, reacted_to};
-    ghost use Rattle.hc_replay.specs.Heard.{hear, policy_of, IsShortHeard};
-    ghost use Rattle.hc_replay.specs.Replies.{reply_parts, IsAnswer};
+    ghost use Rattle.hc_replay.specs.Turn.{batched, due, applied_one, applied_all, batch_of, reported, finished, pooled, resent, request_row, waited, is_impatient, stood, won, ticked, row, order_next, ordered, ordering, counting, settled, stored_of, with_received, reacted_to};
+    ghost use Rattle.hc_replay.specs.Heard.{receive, policy_of, IsShortHeard};
+    ghost use Rattle.r2_frag.specs.Replies.{reply_parts, IsReply};
     ghost use Rattle.r2_frag.specs.Kept.{kept_with, newest};
 
     /// A member that begins with this durable state; all else is new.
     #[tactic(auto, unfolding(crate::specs::Member::anew))]
     pub(crate) fn anew(alloc: Global, durable: Durable) -> Result<Member, NoMemory>
+        requires { durable.whole ≡ true }
         ensures { IfOk result (λ m. m ≡ anew durable.state) }
     {
         let (term, vote, log) = durable.into_parts();
@@ -139,14 +136,14 @@ impl Member {
         sends: &mut Vec<Datagram>,
     ) -> Result<(), NoMemory>
         requires alone { IsAlone setup.now }
-        requires limit { length reply.now.value ≤ 65527 }
+        requires limit { length reply.now.value ≤ most_scanned }
         ensures state { OnOk result (self.new ≡ record self.old { kept = kept_with self.old.kept (record { rid = entry.now.rid; policy = policy_of entry.now.kind; payload = payload_of index reply.now.status reply.now.value }) }) }
-        ensures replies { OnOk result (sends.new.items ≡ sends.old.items ++ reply_parts (own_address setup.now) (policy_of entry.now.kind) entry.now.rid (payload_of index reply.now.status reply.now.value)) }
+        ensures replies { OnOk result (sends.new.items ≡ sends.old.items ++ reply_parts (own_address setup.now) entry.now.rid (policy_of entry.now.kind) (payload_of index reply.now.status reply.now.value)) }
     {
         let payload = payload_of(alloc, index, reply)?;
         let policy = policy_of(entry.kind);
         let from = setup.own_address();
-        let datagrams = reply_parts(alloc, from, policy, entry.rid, payload.as_slice())?;
+        let datagrams = reply_parts(alloc, from, &entry.rid, policy, payload.as_slice())?;
         sends.append(&mut datagrams.into_vec())?;
         self.kept.keep(entry.rid, policy, payload);
         Ok(())
@@ -162,24 +159,23 @@ impl Member {
     ) -> Result<(), NoMemory>
         requires alone { IsAlone setup.now }
         requires there { self.old.applied < length self.old.log }
-        requires fits { length self.old.log ≤ 2 ^ 62 }
-        requires bodies { All (λ stored. length stored.body ≤ 61440) self.old.log }
+        requires fits { length self.old.log ≤ greatest_number }
+        requires bodies { All (λ stored. length stored.body ≤ most_body) self.old.log }
         requires values { AreShort self.old.service.contents }
-        requires writes { self.old.service.writes < 2 ^ 60 }
-        requires reads { self.old.service.reads < 2 ^ 60 }
+        requires writes { self.old.service.writes < most_counted }
+        requires reads { self.old.service.reads < most_counted }
         ensures state { OnOk result ((stored : _) → slice_get self.old.log self.old.applied ≡ Some stored
             → self.new ≡ (applied_one setup.now self.old stored).member) }
         ensures replies { OnOk result ((stored : _) → slice_get self.old.log self.old.applied ≡ Some stored
             → sends.new.items ≡ sends.old.items ++ (applied_one setup.now self.old stored).sends) }
     {
         let index = self.applied + 1;
-        let stored = entry_behind(&self.log, self.applied);
-        let entry = stored.entry;
+        let (entry, body) = entry_after(&self.log, self.applied);
         let answers = entry.replier == setup.me;
         match entry.kind {
             Kind::Blank => {}
             Kind::Write => {
-                let reply = self.service.apply(alloc, stored.body.as_slice())?;
+                let reply = self.service.apply(alloc, body.as_slice())?;
                 if answers {
                     self.answer(alloc, setup, index, &entry, &reply, sends)?;
                 }
@@ -187,7 +183,7 @@ impl Member {
             Kind::Read => {
                 if answers {
                     let ticket = self.service.admit();
-                    let reply = self.service.read(alloc, ticket, stored.body.as_slice())?;
+                    let reply = self.service.read(alloc, ticket, body.as_slice())?;
                     self.answer(alloc, setup, index, &entry, &reply, sends)?;
                 }
             }
@@ -200,11 +196,11 @@ impl Member {
     fn apply_batch(&mut self, alloc: Global, setup: &Setup) -> Result<Vec<Datagram>, NoMemory>
         requires alone { IsAlone setup.now }
         requires there { self.old.applied + self.old.pending ≤ length self.old.log }
-        requires fits { length self.old.log ≤ 2 ^ 62 }
-        requires bodies { All (λ stored. length stored.body ≤ 61440) self.old.log }
+        requires fits { length self.old.log ≤ greatest_number }
+        requires bodies { All (λ stored. length stored.body ≤ most_body) self.old.log }
         requires values { AreShort self.old.service.contents }
-        requires kept { All IsAnswer self.old.kept }
-        requires requests { requests_of self.old.log ≤ 1048576 }
+        requires kept { All IsReply self.old.kept }
+        requires requests { requests_of self.old.log ≤ most_requests }
         requires service { IsReplayed setup.now.me (take self.old.applied self.old.log) self.old.service }
         ensures replies { IfOk result (λ sends. sends.items ≡ (applied_all setup.now self.old (batch_of self.old)).sends) }
         ensures applied { OnOk result (self.new ≡ (applied_all setup.now self.old (batch_of self.old)).member) }
@@ -266,7 +262,7 @@ impl Member {
         ensures { self.new ≡ waited self.old }
     {
         self.silent = self.silent.saturating_add(1).min(SILENCE_LIMIT);
-        if self.pool.len() >= POOL_LIMIT {
+        if self.pool.len() >= MOST_POOLED {
             drop_oldest(&mut self.pool);
         }
     }
@@ -274,23 +270,23 @@ impl Member {
     #[tactic(auto, unfolding(crate::specs::Turn::is_impatient))]
     fn is_impatient(&self, setup: &Setup) -> bool
         ensures exact { result ≡ is_impatient setup.now self.now }
-        ensures low_term { result ≡ true → self.now.term < 2 ^ 62 }
-        ensures short_log { result ≡ true → length self.now.log < 2 ^ 62 }
+        ensures low_term { result ≡ true → self.now.term < greatest_number }
+        ensures short_log { result ≡ true → length self.now.log < greatest_number }
     {
         let patience = u64::from(setup.election) + 3 * u64::from(setup.me);
         if patience > u64::from(self.silent) {
             return false;
         }
-        if self.term >= INDEX_LIMIT {
+        if self.term >= GREATEST_NUMBER {
             return false;
         }
-        self.log.last() < INDEX_LIMIT
+        self.log.last() < GREATEST_NUMBER
     }
 
     /// Becomes a candidate of the next term, with its own vote.
     #[tactic(auto, unfolding(crate::specs::Turn::stood))]
     fn stand(&mut self, setup: &Setup)
-        requires { self.old.term < 2 ^ 62 }
+        requires { self.old.term < greatest_number }
         ensures candidate { self.new ≡ stood setup.now self.old }
         ensures log { self.new.log ≡ self.old.log }
     {
@@ -304,7 +300,7 @@ impl Member {
     #[tactic(auto, unfolding(crate::specs::Turn::won))]
     fn win(&mut self, alloc: Global, setup: &Setup) -> Result<(), NoMemory>
         requires alone { IsAlone setup.now }
-        requires fits { length self.old.log < 2 ^ 62 }
+        requires fits { length self.old.log < greatest_number }
         requires follows { MayFollow self.old.log (blank_of self.old.term) }
         ensures { OnOk result (self.new ≡ won setup.now self.old) }
     {
@@ -334,14 +330,14 @@ impl Member {
     /// The kept reply to a request once more, where one is kept.
     fn resend(&self, alloc: Global, setup: &Setup, request: &Request) -> Result<Datagrams, NoMemory>
         requires alone { IsAlone setup.now }
-        requires replies { All IsAnswer self.now.kept }
+        requires replies { All IsReply self.now.kept }
         ensures { IfOk result (λ sends. sends ≡ resent setup.now request.now (newest request.now.rid self.now.kept)) }
     {
         let Some((policy, payload)) = self.kept.find(&request.rid) else {
             return Ok(Listed::from_vec(Vec::new(alloc)));
         };
         let from = setup.own_address();
-        reply_parts(alloc, from, policy, request.rid, payload.as_slice())
+        reply_parts(alloc, from, &request.rid, policy, payload.as_slice())
     }
 
     /// Takes a whole request: one that stands in the log is answered again, another waits to be ordered.
@@ -353,7 +349,7 @@ impl Member {
         request: Request,
     ) -> Result<Datagrams, NoMemory>
         requires alone { IsAlone setup.now }
-        requires replies { All IsAnswer self.old.kept }
+        requires replies { All IsReply self.old.kept }
         requires may_wait { MayWait request }
         ensures state { OnOk result (self.new ≡ (request_row setup.now self.old request).member) }
         ensures sends { IfOk result (λ sends. sends ≡ (request_row setup.now self.old request).sends) }
@@ -369,7 +365,7 @@ impl Member {
     #[tactic(auto, unfolding(crate::specs::Turn::row))]
     fn row(&mut self, alloc: Global, setup: &Setup, said: Heard) -> Result<Datagrams, NoMemory>
         requires alone { IsAlone setup.now }
-        requires replies { All IsAnswer self.old.kept }
+        requires replies { All IsReply self.old.kept }
         requires orderly { IsOrderly self.old }
         requires short { IsShortHeard said }
         ensures state { OnOk result (self.new ≡ (row setup.now self.old said).member) }
@@ -377,7 +373,7 @@ impl Member {
     {
         match said {
             Heard::Whole(request) => return self.take_request(alloc, setup, request),
-            Heard::Time => {
+            Heard::Tick => {
                 if self.role != Role::Leader {
                     self.tick(alloc, setup)?;
                 }
@@ -434,7 +430,10 @@ impl Member {
             return Ok(());
         }
         let appended = self.log.last().saturating_sub(keep);
-        self.order_up_to(setup.bound, TURN_LIMIT.saturating_sub(appended))
+        self.order_up_to(
+            setup.bound,
+            u64::from(MOST_ENTRIES).saturating_sub(appended),
+        )
     }
 
     /// Commits what a majority has, where the last of it is of the leader's own term.
@@ -490,17 +489,17 @@ impl Member {
             term: self.term,
             vote: self.vote,
             keep,
-            entries: entries_behind(alloc, &self.log, keep)?,
+            entries: self.log.entries_after(keep)?,
         }))
     }
 
     /// Hears an event: takes up the part that comes with it, and says what the event says then.
-    #[tactic(auto, unfolding(crate::specs::Turn::hearing))]
-    pub(crate) fn hear(&mut self, event: &Event) -> Result<Heard, NoMemory>
-        ensures said { IfOk result (λ said. said ≡ (hear self.old.unfinished event.now).said) }
-        ensures state { OnOk result (self.new ≡ hearing self.old event.now) }
+    #[tactic(auto, unfolding(crate::specs::Turn::with_received))]
+    pub(crate) fn receive(&mut self, event: &Event) -> Result<Heard, NoMemory>
+        ensures said { IfOk result (λ said. said ≡ (receive self.old.unfinished event.now).said) }
+        ensures state { OnOk result (self.new ≡ with_received self.old event.now) }
     {
-        hear(&mut self.unfinished, event)
+        receive(&mut self.unfinished, event)
     }
 
     /// Reacts to what was heard: what changed of the durable state, and what goes out behind it.
@@ -541,7 +540,7 @@ fn blank(alloc: Global, term: u64) -> Stored
             term,
             kind: Kind::Blank,
             rid: Rid { id: 0, client },
-            replier: NOBODY,
+            replier: NO_REPLIER,
         },
         body: Listed::from_vec(Vec::new(alloc)),
     }

@@ -44,7 +44,7 @@ pub(crate) fn make_turn(
     ensures fits { IfOk result (λ turn. IfSome turn.reaction.stored IsInRange) }
 {
     let replies = member.finish(alloc, setup)?;
-    let said = member.hear(event)?;
+    let said = member.receive(event)?;
     let reaction = member.react(alloc, setup, said)?;
     Ok(WholeTurn { replies, reaction })
 }

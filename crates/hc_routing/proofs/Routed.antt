@@ -1,22 +1,22 @@
 -- A router's turns, one more at a time.
-use Rattle.std.proofs.Common.{◌≡◌, ℕ, ◌+◌, List, [], ◌∷◌, ◌++◌, length, refl, sym, ap, ◌∙◌, subst, append_assoc, append-nil, length-append, arith}
+use Rattle.std.proofs.Common.{◌≡◌, ℕ, ◌+◌, List, [], ◌∷◌, ◌++◌, length, refl, sym, ap, ◌∙◌, subst, append_assoc, append-nil, arith}
 use Rattle.r2_base.specs.declared.datagram.Datagram.{Datagram}
 use Rattle.r2_base.specs.declared.event.Event.{Event}
-use Rattle.r2_jbsq.specs.declared.setup.Setup.{Setup}
+use Rattle.r2_jbsq.specs.declared.router_setup.RouterSetup.{RouterSetup}
 use Rattle.r2_jbsq.specs.Answer.{answer, history_behind, marks}
 use Rattle.r2_jbsq.specs.History.{Mark}
 use Rattle.r2_jbsq.specs.State.{RouterState, StandsFor}
 use Rattle.hc_routing.specs.Routed.{Becomes, counted, sent_behind}
 
 -- the history behind one event more
-history-more : (setup : Setup) (history : List Mark) (events : List Event) (event : Event)
+history-more : (setup : RouterSetup) (history : List Mark) (events : List Event) (event : Event)
     → history_behind setup history (events ++ event ∷ []) ≡ history_behind setup history events ++ marks setup (history_behind setup history events) event
 unfolding history_behind
 history-more setup history [] event = refl
 history-more setup history (first ∷ events) event = history-more setup (history ++ marks setup history first) events event
 
 -- what is sent for one event more
-sent-more : (setup : Setup) (history : List Mark) (events : List Event) (event : Event)
+sent-more : (setup : RouterSetup) (history : List Mark) (events : List Event) (event : Event)
     → sent_behind setup history (events ++ event ∷ []) ≡ sent_behind setup history events ++ answer setup (history_behind setup history events) event
 unfolding history_behind sent_behind
 sent-more setup history [] event = append-nil (answer setup history event)
@@ -47,12 +47,12 @@ becomes-more first old new n m k events event sent sends before gives stands sam
   stands = λ history stood.
       let behind = history_behind first.setup history events in
       subst (λ (h : List Mark). StandsFor new h) (sym (history-more first.setup history events event))
-      (subst (λ (s : Setup). StandsFor new (behind ++ marks s behind event)) before.setup (stands behind (before.stands history stood)));
+      (subst (λ (s : RouterSetup). StandsFor new (behind ++ marks s behind event)) before.setup (stands behind (before.stands history stood)));
   sends = λ history stood.
       let behind = history_behind first.setup history events in
       ap (λ (l : List Datagram). l ++ sends) (before.sends history stood)
       ∙ ap (λ (l : List Datagram). sent_behind first.setup history events ++ l)
-      (gives behind (before.stands history stood) ∙ ap (λ (s : Setup). answer s behind event) before.setup)
+      (gives behind (before.stands history stood) ∙ ap (λ (s : RouterSetup). answer s behind event) before.setup)
       ∙ sym (sent-more first.setup history events event);
   setup = same ∙ before.setup;
   turns = one ∙ ap (λ (c : ℕ). c + 1) before.turns ∙ sym (counted-more n events event);

@@ -6,7 +6,7 @@ use Rattle.std.proofs.KnownBytes.{Keeps-refl}
 use Rattle.r2_base.specs.declared.datagram.Datagram.{Datagram}
 use Rattle.r2_base.specs.declared.event.Event.{Event}
 use Rattle.r2_link.specs.Streams.{AppendsFront}
-use Rattle.r2_jbsq.specs.declared.setup.Setup.{Setup}
+use Rattle.r2_jbsq.specs.declared.router_setup.RouterSetup.{RouterSetup}
 use Rattle.r2_jbsq.specs.Answer.{history_behind}
 use Rattle.r2_jbsq.specs.History.{is_accept, is_answer, is_forward}
 use Rattle.r2_jbsq.specs.State.{RouterState, StandsFor, begin}
@@ -19,24 +19,24 @@ use Rattle.hc_loops.proofs.Told.{IsKept-refl, IsKept-trans}
 use Rattle.hc_routing.specs.Routed.{Becomes, RouterSends, sent_behind}
 use Rattle.hc_routing.specs.Totals.{totals_line, totals_text}
 use Rattle.hc_routing.specs.Twins.{Around, IsUntouched, RunsOnTwin}
-use Rattle.hc_routing.specs.Routes.{DoesNothing, IsWholeRun, Routes, RunsUntold, TellsFront, TellsTotals}
+use Rattle.hc_routing.specs.Routes.{IsWholeRun, Routes, TellsFront, TellsTotals}
 use Rattle.hc_routing.proofs.Routed.{counted-all}
 use Rattle.hc_routing.proofs.Twins.{on-twin-from, on-twin-weaker}
 
 -- what a new router sent, and its line of totals
-abbrev pub Counted : Setup → List ℕ → List Event → List Datagram → Type 0
+abbrev pub Counted : RouterSetup → List ℕ → List Event → List Datagram → Type 0
 Counted setup line events sends = RouterSends setup events sends × (line ≡ totals_text setup events)
 
 -- a new router's turns are those of the empty history
-new-stands : (setup : Setup) (r : RouterState) → r ≡ begin setup → StandsFor r []
+new-stands : (setup : RouterSetup) (r : RouterState) → r ≡ begin setup → StandsFor r []
 new-stands setup r begun = subst (λ (x : RouterState). StandsFor x []) (sym begun) (begin-stands setup)
 
-pub new-sends : (setup : Setup) (old new : RouterState) (n m : ℕ) (events : List Event) (sends : List Datagram)
+pub new-sends : (setup : RouterSetup) (old new : RouterState) (n m : ℕ) (events : List Event) (sends : List Datagram)
     → old ≡ begin setup → Becomes old n events sends new m → RouterSends setup events sends
 new-sends setup old new n m events sends begun becomes =
     becomes.sends [] (new-stands setup old begun) ∙ ap (λ (r : RouterState). sent_behind r.setup [] events) begun
 
-pub new-counted : (setup : Setup) (old new : RouterState) (n m : ℕ) (events : List Event) (sends : List Datagram)
+pub new-counted : (setup : RouterSetup) (old new : RouterState) (n m : ℕ) (events : List Event) (sends : List Datagram)
     → old ≡ begin setup → n ≡ 0 → Becomes old n events sends new m
     → Counted setup (totals_line m new.accepted new.forwarded new.answered) events sends
 new-counted setup old new n m events sends begun zero becomes =
@@ -44,20 +44,20 @@ new-counted setup old new n m events sends begun zero becomes =
     let behind = becomes.stands [] stands in
     let same : old.setup ≡ setup = ap (λ (r : RouterState). r.setup) begun in
     let turns : m ≡ length events = omega (arith, becomes.turns, zero, counted-all n events) in (
-      becomes.sends [] stands ∙ ap (λ (s : Setup). sent_behind s [] events) same,
+      becomes.sends [] stands ∙ ap (λ (s : RouterSetup). sent_behind s [] events) same,
       ap (λ (k : ℕ). totals_line k new.accepted new.forwarded new.answered) turns
-          ∙ ap (λ (k : ℕ). totals_line (length events) k new.forwarded new.answered) (behind.accepted ∙ ap (λ (s : Setup). count_by is_accept (history_behind s [] events)) same)
-          ∙ ap (λ (k : ℕ). totals_line (length events) (count_by is_accept (history_behind setup [] events)) k new.answered) (behind.forwarded ∙ ap (λ (s : Setup). count_by is_forward (history_behind s [] events)) same)
+          ∙ ap (λ (k : ℕ). totals_line (length events) k new.forwarded new.answered) (behind.accepted ∙ ap (λ (s : RouterSetup). count_by is_accept (history_behind s [] events)) same)
+          ∙ ap (λ (k : ℕ). totals_line (length events) (count_by is_accept (history_behind setup [] events)) k new.answered) (behind.forwarded ∙ ap (λ (s : RouterSetup). count_by is_forward (history_behind s [] events)) same)
           ∙ ap (λ (k : ℕ). totals_line (length events) (count_by is_accept (history_behind setup [] events)) (count_by is_forward (history_behind setup [] events)) k)
-          (behind.answered ∙ ap (λ (s : Setup). count_by is_answer (history_behind s [] events)) same),
+          (behind.answered ∙ ap (λ (s : RouterSetup). count_by is_answer (history_behind s [] events)) same),
     )
 
 -- the totals were told, or a front of them
-whole-told : (setup : Setup) (line : List ℕ) (w w' : Option (List ℕ)) → Appends w w' line → (events : List Event) (sends : List Datagram)
+whole-told : (setup : RouterSetup) (line : List ℕ) (w w' : Option (List ℕ)) → Appends w w' line → (events : List Event) (sends : List Datagram)
     → Counted setup line events sends → TellsTotals setup w w' events sends
 whole-told setup line w w' gave events sends counted = (counted.0, subst (λ (l : List ℕ). Appends w w' l) counted.1 gave)
 
-front-told : (setup : Setup) (line : List ℕ) (w w' : Option (List ℕ)) → AppendsFront w w' line → (events : List Event) (sends : List Datagram)
+front-told : (setup : RouterSetup) (line : List ℕ) (w w' : Option (List ℕ)) → AppendsFront w w' line → (events : List Event) (sends : List Datagram)
     → Counted setup line events sends → TellsFront setup w w' events sends
 front-told setup line w w' gave events sends counted = (counted.0, subst (λ (l : List ℕ). AppendsFront w w' l) counted.1 gave)
 
@@ -66,7 +66,7 @@ abbrev pub Told : List ℕ → Option (List ℕ) → Option (List ℕ) → Statu
 Told line w w' ended result =
     ((result ≡ ended) × Appends w w' line) ⊎ ((result ≡ SinkFault) × AppendsFront w w' line)
 
-module _ (setup : Setup) (pace : Pace) (line : List ℕ) (a b : Around) (w w' : Option (List ℕ)) where
+module _ (setup : RouterSetup) (pace : Pace) (line : List ℕ) (a b : Around) (w w' : Option (List ℕ)) where
   -- a front of the totals, behind either end
   front-routes : (ended : Status) → IsWholeRun ended → RunsOnTwin (Counted setup line) (RouterSends setup) pace a b ended → AppendsFront w w' line
       → Routes setup pace a b w w' SinkFault
@@ -103,7 +103,7 @@ module _ (setup : Setup) (pace : Pace) (line : List ℕ) (a b : Around) (w w' : 
   routes-of _ result runs kept told = absurd runs.served.ended
 
 -- without a fault a run comes to its end, or memory runs out
-pub ends-well : (setup : Setup) (pace : Pace) (a b : Around) (w w' : Option (List ℕ)) (status : Status) (link clock sink : Type 0)
+pub ends-well : (setup : RouterSetup) (pace : Pace) (a b : Around) (w w' : Option (List ℕ)) (status : Status) (link clock sink : Type 0)
     → Routes setup pace a b w w' status → (status ≡ LinkFault → link) → (status ≡ ClockFault → clock) → (status ≡ SinkFault → sink)
     → (link → ⊥) → (clock → ⊥) → (sink → ⊥) → IsServed status
 ends-well setup pace a b w w' Done link clock sink routes l c s no_l no_c no_s = tt
@@ -122,7 +122,7 @@ untouched-then a b c p q = record {
   clock = IsKept-trans a.clock b.clock c.clock p.clock q.clock;
 }
 
-pub routes-from : (setup : Setup) (pace : Pace) (a b c : Around) (w w' : Option (List ℕ)) (status : Status)
+pub routes-from : (setup : RouterSetup) (pace : Pace) (a b c : Around) (w w' : Option (List ℕ)) (status : Status)
     → IsUntouched a b → Routes setup pace b c w w' status → Routes setup pace a c w w' status
 routes-from setup pace a b c w w' Done kept runs = on-twin-from (TellsTotals setup w w') (RouterSends setup) pace a b c Done kept runs
 routes-from setup pace a b c w w' TurnsSpent kept runs = on-twin-from (TellsTotals setup w w') (RouterSends setup) pace a b c TurnsSpent kept runs
@@ -136,6 +136,6 @@ routes-from setup pace a b c w w' ClockFault kept runs = (on-twin-from (RouterSe
 routes-from setup pace a b c w w' _ kept runs = absurd runs
 
 -- without memory for anything nothing was done
-pub routes-nothing : (setup : Setup) (pace : Pace) (a : Around) (w : Option (List ℕ)) → Routes setup pace a a w w Memory
+pub routes-nothing : (setup : RouterSetup) (pace : Pace) (a : Around) (w : Option (List ℕ)) → Routes setup pace a a w w Memory
 routes-nothing setup pace a w =
     inl (record { lanes = IsKept-refl a.lanes; sent = IsKept-refl a.sent; clock = IsKept-refl a.clock }, Keeps-refl w)

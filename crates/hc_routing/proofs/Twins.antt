@@ -1,11 +1,11 @@
 -- A loop on a twin, as the link tells it that takes the twin back.
-use Rattle.std.proofs.Common.{◌≡◌, ℕ, ◌≤◌, ◌<◌, List, Option, Some, None, refl, ◌∙◌, ap, subst, arith}
+use Rattle.std.proofs.Common.{◌≡◌, ℕ, ◌≤◌, ◌<◌, List, Option, Some, None, ◌∙◌, ap, arith}
 use Rattle.std.specs.Prelude.{drop}
 use Rattle.r2_base.specs.declared.datagram.Datagram.{Datagram}
 use Rattle.r2_base.specs.declared.event.Event.{Event}
 use Rattle.r2_link.specs.declared.lane.Item.{Item}
 use Rattle.r2_link.specs.Faults.{Rose}
-use Rattle.r2_link.specs.Told.{Gains, HasFirst, HasNone, IsKept, Joins, LosesFirst, first_list}
+use Rattle.r2_link.specs.Told.{HasFirst, HasNone, IsKept, Joins, LosesFirst, first_list}
 use Rattle.hc_status.specs.declared.status.Status.{Status}
 use Rattle.hc_loops.specs.declared.pace.Pace.{Pace}
 use Rattle.hc_loops.specs.Loop.{Serves}

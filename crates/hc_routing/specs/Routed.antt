@@ -2,18 +2,18 @@
 use Rattle.std.specs.Prelude.{◌≡◌, ℕ, ◌+◌, List, [], ◌∷◌, ◌++◌, refl}
 use Rattle.r2_base.specs.declared.datagram.Datagram.{Datagram}
 use Rattle.r2_base.specs.declared.event.Event.{Event}
-use Rattle.r2_jbsq.specs.declared.setup.Setup.{Setup}
+use Rattle.r2_jbsq.specs.declared.router_setup.RouterSetup.{RouterSetup}
 use Rattle.r2_jbsq.specs.Answer.{answer, history_behind, marks}
 use Rattle.r2_jbsq.specs.History.{Mark}
 use Rattle.r2_jbsq.specs.State.{RouterState, StandsFor}
 
 -- the datagrams that are sent for these events, one after another, behind a history
-unfoldable pub sent_behind : Setup → List Mark → List Event → List Datagram
+unfoldable pub sent_behind : RouterSetup → List Mark → List Event → List Datagram
 sent_behind setup history [] = []
 sent_behind setup history (event ∷ more) = answer setup history event ++ sent_behind setup (history ++ marks setup history event) more
 
 -- a new router sends these datagrams at these events
-abbrev pub RouterSends : Setup → List Event → List Datagram → Type 0
+abbrev pub RouterSends : RouterSetup → List Event → List Datagram → Type 0
 RouterSends setup events sends = sends ≡ sent_behind setup [] events
 
 -- a count that goes up by one at each event

@@ -4,7 +4,7 @@ use Rattle.std.specs.Io.KnownBytes.{Appends, Keeps}
 use Rattle.r2_base.specs.declared.datagram.Datagram.{Datagram}
 use Rattle.r2_base.specs.declared.event.Event.{Event}
 use Rattle.r2_link.specs.Streams.{AppendsFront}
-use Rattle.r2_jbsq.specs.declared.setup.Setup.{Setup}
+use Rattle.r2_jbsq.specs.declared.router_setup.RouterSetup.{RouterSetup}
 use Rattle.hc_status.specs.declared.status.Status.{Status}
 use Rattle.hc_status.specs.declared.status.Status.TheVariants.{Done, Memory, SinkFault, LinkFault, ClockFault, TurnsSpent}
 use Rattle.hc_loops.specs.declared.pace.Pace.{Pace}
@@ -13,11 +13,11 @@ use Rattle.hc_routing.specs.Totals.{totals_text}
 use Rattle.hc_routing.specs.Twins.{Around, IsUntouched, RunsOnTwin}
 
 -- these datagrams were sent at these events, and their totals were written
-abbrev pub TellsTotals : Setup → Option (List ℕ) → Option (List ℕ) → List Event → List Datagram → Type 0
+abbrev pub TellsTotals : RouterSetup → Option (List ℕ) → Option (List ℕ) → List Event → List Datagram → Type 0
 TellsTotals setup written written' events sends = RouterSends setup events sends × Appends written written' (totals_text setup events)
 
 -- and a front of their totals was written
-abbrev pub TellsFront : Setup → Option (List ℕ) → Option (List ℕ) → List Event → List Datagram → Type 0
+abbrev pub TellsFront : RouterSetup → Option (List ℕ) → Option (List ℕ) → List Event → List Datagram → Type 0
 TellsFront setup written written' events sends = RouterSends setup events sends × AppendsFront written written' (totals_text setup events)
 
 -- a loop that its link ended, or its last turn
@@ -27,7 +27,7 @@ IsWholeRun TurnsSpent = Unit {0}
 IsWholeRun _ = ⊥
 
 -- the loop ended so, and nothing was written
-abbrev pub RunsUntold : Setup → Pace → Around → Around → Option (List ℕ) → Option (List ℕ) → Status → Type 0
+abbrev pub RunsUntold : RouterSetup → Pace → Around → Around → Option (List ℕ) → Option (List ℕ) → Status → Type 0
 RunsUntold setup pace old new written written' status =
     RunsOnTwin (RouterSends setup) (RouterSends setup) pace old new status × Keeps written written'
 
@@ -37,7 +37,7 @@ DoesNothing old new written written' = IsUntouched old new × Keeps written writ
 
 -- a router's run, by how it ended: the totals of what was received are written where the loop came to its end by its link or its
 -- last turn, and nothing is where it didn't
-abbrev pub Routes : Setup → Pace → Around → Around → Option (List ℕ) → Option (List ℕ) → Status → Type 0
+abbrev pub Routes : RouterSetup → Pace → Around → Around → Option (List ℕ) → Option (List ℕ) → Status → Type 0
 Routes setup pace old new written written' Done = RunsOnTwin (TellsTotals setup written written') (RouterSends setup) pace old new Done
 Routes setup pace old new written written' TurnsSpent = RunsOnTwin (TellsTotals setup written written') (RouterSends setup) pace old new TurnsSpent
 Routes setup pace old new written written' SinkFault =

@@ -2,7 +2,7 @@
 use Rattle.std.specs.Prelude.{ℕ, List, [], ◌∷◌, ◌++◌, codes, count_by, length}
 use Rattle.std.specs.Fmt.{decimal}
 use Rattle.r2_base.specs.declared.event.Event.{Event}
-use Rattle.r2_jbsq.specs.declared.setup.Setup.{Setup}
+use Rattle.r2_jbsq.specs.declared.router_setup.RouterSetup.{RouterSetup}
 use Rattle.r2_jbsq.specs.Answer.{history_behind}
 use Rattle.r2_jbsq.specs.History.{is_accept, is_answer, is_forward}
 
@@ -17,7 +17,7 @@ totals_line turns accepted forwarded answered =
     ++ count_text (codes " answered ") answered ++ 10 ∷ []
 
 -- the totals of a new router behind these events: the marks of each kind in its history
-abbrev pub totals_text : Setup → List Event → List ℕ
+abbrev pub totals_text : RouterSetup → List Event → List ℕ
 totals_text setup events =
     let history = history_behind setup [] events in
     totals_line (length events) (count_by is_accept history) (count_by is_forward history) (count_by is_answer history)

@@ -2,9 +2,9 @@
 #![tactic(auto)]
 
 mod on_twin;
-mod party;
+mod router_totals;
 mod routing;
-mod totals;
+mod routing_party;
 
 pub use routing::serve_router;
 

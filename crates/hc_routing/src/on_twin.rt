@@ -1,10 +1,11 @@
-ghost use Rattle.std.specs.Prelude.{◌≡◌, ◌≤◌, ◌^◌, List, IfOk, OnErr, MatchResult, ⊤};
-ghost use Rattle.r2_base.specs.declared.datagram.Datagram.{Datagram as Sent};
-ghost use Rattle.r2_base.specs.declared.event.Event.{Event as Happening};
+ghost use Rattle.std.specs.Prelude.{◌≡◌, ◌≤◌, List, IfOk, OnErr, MatchResult, ⊤};
+ghost use Rattle.r2_base.specs.declared.datagram.Datagram.{Datagram as DatagramSpec};
+ghost use Rattle.r2_base.specs.declared.event.Event.{Event as EventSpec};
+ghost use Rattle.r2_base.specs.Limits.{most_turns};
 ghost use Rattle.r2_link.specs.Faults.{Rose};
 ghost use Rattle.r2_link.specs.Lanes.{IsFault};
 ghost use Rattle.r2_link.specs.Told.{IsKept};
-ghost use Rattle.hc_status.specs.declared.status.Status.TheVariants.{LinkFault as LinkFailed, ClockFault as ClockFailed};
+ghost use Rattle.hc_status.specs.declared.status.Status.TheVariants.{LinkFault as LinkFaultSpec, ClockFault as ClockFaultSpec};
 ghost use Rattle.hc_routing.specs.Twins.{IsUntouched, RunsOnTwin};
 
 use hc_loops::{Pace, Party, serve};
@@ -23,10 +24,10 @@ pub(crate) fn serve_on_twin<P: Party, L: Twin, C: Clock>(
 ) -> Result<Status, LinkFault>
     requires fresh { P.had_turns 0 party.old }
     requires tick { 1 ≤ pace.tick_ms }
-    requires turns { pace.turns ≤ 2 ^ 56 }
+    requires turns { pace.turns ≤ most_turns }
 
-    ensures ran { IfOk result (λ status. RunsOnTwin (λ (events : List Happening) (sent : List Sent). P.turned party.old events sent party.new)
-        (λ (events : List Happening) (sent : List Sent). (last : P) × P.turned party.old events sent last) pace
+    ensures ran { IfOk result (λ status. RunsOnTwin (λ (events : List EventSpec) (sent : List DatagramSpec). P.turned party.old events sent party.new)
+        (λ (events : List EventSpec) (sent : List DatagramSpec). (last : P) × P.turned party.old events sent last) pace
         (record { lanes = L.lanes link.old; sent = L.sent link.old; clock = C.left clock.old })
         (record { lanes = L.lanes link.new; sent = L.sent link.new; clock = C.left clock.new }) status) }
     ensures untouched { OnErr result (IsUntouched
@@ -34,8 +35,8 @@ pub(crate) fn serve_on_twin<P: Party, L: Twin, C: Clock>(
         (record { lanes = L.lanes link.new; sent = L.sent link.new; clock = C.left clock.new })) }
 
     ensures left { IsKept (L.left link.old) (L.left link.new) }
-    ensures link_fault { MatchResult result (λ status. status ≡ LinkFailed → Rose (L.faults link.old) (L.faults link.new)) (λ e. IsFault e → Rose (L.faults link.old) (L.faults link.new)) }
-    ensures clock_fault { IfOk result (λ status. status ≡ ClockFailed → Rose (C.faults clock.old) (C.faults clock.new)) }
+    ensures link_fault { MatchResult result (λ status. status ≡ LinkFaultSpec → Rose (L.faults link.old) (L.faults link.new)) (λ e. IsFault e → Rose (L.faults link.old) (L.faults link.new)) }
+    ensures clock_fault { IfOk result (λ status. status ≡ ClockFaultSpec → Rose (C.faults clock.old) (C.faults clock.new)) }
     ensures link_steady { L.faults link.old ≤ L.faults link.new }
     ensures clock_steady { C.faults clock.old ≤ C.faults clock.new }
 {

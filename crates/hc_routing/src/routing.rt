@@ -1,16 +1,18 @@
-ghost use Rattle.std.specs.Prelude.{◌≡◌, ◌⊎◌, ◌≤◌, ◌^◌, length};
+ghost use Rattle.std.specs.Prelude.{◌≡◌, ◌⊎◌, ◌≤◌, length};
 ghost use Rattle.std.specs.Io.KnownBytes.{Appends, Keeps};
+ghost use Rattle.r2_base.specs.Limits.{most_turns};
+ghost use Rattle.r2_jbsq.specs.Limits.{greatest_n, most_servers};
 ghost use Rattle.r2_link.specs.Faults.{Rose};
 ghost use Rattle.r2_link.specs.Streams.{AppendsFront};
 ghost use Rattle.r2_link.specs.Told.{IsKept};
-ghost use Rattle.hc_status.specs.declared.status.Status.TheVariants.{SinkFault, LinkFault as LinkFailed, ClockFault};
+ghost use Rattle.hc_status.specs.declared.status.Status.TheVariants.{SinkFault, LinkFault as LinkFaultSpec, ClockFault};
 ghost use Rattle.hc_loops.specs.Loop.{IsServed};
 ghost use Rattle.hc_routing.specs.Routes.{IsWholeRun, Routes};
 ghost use Rattle.hc_routing.specs.Totals.{totals_line};
 
 use crate::on_twin::serve_on_twin;
-use crate::party::RoutingParty;
-use crate::totals::{Totals, write_totals};
+use crate::router_totals::{RouterTotals, write_totals};
+use crate::routing_party::RoutingParty;
 use hc_loops::Pace;
 use hc_status::Status;
 use r2_base::{Addr, Addrs};
@@ -34,12 +36,12 @@ pub fn serve_router<K: Sink, L: Twin, C: Clock>(
     pace: Pace,
 ) -> Status
     requires some_server { 1 ≤ length servers }
-    requires few_servers { length servers ≤ 64 }
+    requires few_servers { length servers ≤ most_servers }
     requires some_request { 1 ≤ n }
-    requires few_requests { n ≤ 16 }
+    requires few_requests { n ≤ greatest_n }
     requires one_worker { workers ≡ 1 }
     requires tick { 1 ≤ pace.tick_ms }
-    requires turns { pace.turns ≤ 2 ^ 56 }
+    requires turns { pace.turns ≤ most_turns }
 
     // What was received and sent on the twin, and what was printed.
     ensures ran { Routes (record { me = me; servers = servers; n = n }) pace
@@ -52,7 +54,7 @@ pub fn serve_router<K: Sink, L: Twin, C: Clock>(
 
     ensures left { IsKept (L.left link.old) (L.left link.new) }
     ensures sink_fault { result ≡ SinkFault → Rose (K.faults sink.old) (K.faults sink.new) }
-    ensures link_fault { result ≡ LinkFailed → Rose (L.faults link.old) (L.faults link.new) }
+    ensures link_fault { result ≡ LinkFaultSpec → Rose (L.faults link.old) (L.faults link.new) }
     ensures clock_fault { result ≡ ClockFault → Rose (C.faults clock.old) (C.faults clock.new) }
     ensures sink_steady { K.faults sink.old ≤ K.faults sink.new }
     ensures link_steady { L.faults link.old ≤ L.faults link.new }
@@ -70,7 +72,7 @@ pub fn serve_router<K: Sink, L: Twin, C: Clock>(
 }
 
 /// How a router's run ends whose loop ended so: where that was by the twin's end or the last turn, the totals are printed.
-fn tell_end<K: Sink>(sink: &mut K, totals: Totals, ended: Status) -> Status
+fn tell_end<K: Sink>(sink: &mut K, totals: RouterTotals, ended: Status) -> Status
     ensures untold { (IsWholeRun ended → ⊥) → (result ≡ ended) × Keeps (K.written sink.old) (K.written sink.new) }
     ensures told { IsWholeRun ended
         → ((result ≡ ended) × Appends (K.written sink.old) (K.written sink.new) (totals_line totals.turns totals.accepted totals.forwarded totals.answered))

@@ -1,8 +1,8 @@
 ghost use Rattle.std.specs.Prelude.{◌≡◌, ◌++◌, ℕ, List, Ok, IfOk, IfErr, IfSome, IsSomeAnd, MatchResult};
 ghost use Rattle.hex.specs.Hex.{decode_of};
-ghost use Rattle.r2_base.specs.declared.addr.Addr.{Addr as Address};
+ghost use Rattle.r2_base.specs.declared.addr.Addr.{Addr as AddrSpec};
 ghost use Rattle.hc_script.specs.Line.{IsIncoming, IsLine, IsSentBy};
-ghost use Rattle.hc_script.specs.declared.line.Line.{Line as Said};
+ghost use Rattle.hc_script.specs.declared.line.Line.{Line as LineSpec};
 
 use crate::text_fault::TextFault;
 use hex::FromHexError;
@@ -27,8 +27,8 @@ pub enum Line {
 /// It is [`TextFault::Outside`] where no script has such a line.
 pub fn replay_line(alloc: Global, line: &[u8]) -> Result<Line, TextFault>
     ensures found { IfOk result (λ l. IsLine line.now l) }
-    ensures only { (l : Said) → IsLine line.now l → MatchResult result (λ r. r ≡ l) (λ e. e ≡ TextFault.Memory) }
-    ensures outside { result ≡ Err TextFault.Outside → (l : Said) → IsLine line.now l → ⊥ }
+    ensures only { (l : LineSpec) → IsLine line.now l → MatchResult result (λ r. r ≡ l) (λ e. e ≡ TextFault.Memory) }
+    ensures outside { result ≡ Err TextFault.Outside → (l : LineSpec) → IsLine line.now l → ⊥ }
 {
     if line == b"tick".as_slice() {
         return Ok(Line::Tick);
@@ -44,7 +44,7 @@ pub fn replay_line(alloc: Global, line: &[u8]) -> Result<Line, TextFault>
 
 fn read_incoming(alloc: Global, line: &[u8]) -> Result<Line, TextFault>
     ensures found { IfOk result (λ l. IsLine line.now l) }
-    ensures only { (from : Address) (bytes : List ℕ) → IsIncoming line.now from bytes
+    ensures only { (from : AddrSpec) (bytes : List ℕ) → IsIncoming line.now from bytes
         → MatchResult result (λ r. r ≡ Line.In from bytes) (λ e. e ≡ TextFault.Memory) }
 {
     let Some((from, digits)) = read_sender(line) else {
@@ -60,7 +60,7 @@ fn read_incoming(alloc: Global, line: &[u8]) -> Result<Line, TextFault>
 /// Who sent the datagram of the line, and the text behind the space that follows.
 fn read_sender(line: &[u8]) -> Option<(Addr, &[u8])>
     ensures found { IfSome result (λ p. IsSentBy line.now p.0 p.1.now) }
-    ensures only { (from : Address) (digits : List ℕ) → IsSentBy line.now from digits
+    ensures only { (from : AddrSpec) (digits : List ℕ) → IsSentBy line.now from digits
         → IsSomeAnd result (λ p. (p.0 ≡ from) × (p.1.now ≡ digits)) }
 {
     let rest = behind(line, b"in ")?;

@@ -55,7 +55,7 @@ read_only : serve (with_a 2) Read (0x50 ∷ 0 ∷ 1 ∷ 0x61 ∷ 1 ∷ []) ≡ a
 unfolding serve command_of
 read_only = refl
 
-found : (n : ℕ) → serve (with_a n) Read (0x47 ∷ 0 ∷ 1 ∷ 0x61 ∷ []) ≡ answered (with_a n) 0 (n ∷ [])
+pub found : (n : ℕ) → serve (with_a n) Read (0x47 ∷ 0 ∷ 1 ∷ 0x61 ∷ []) ≡ answered (with_a n) 0 (n ∷ [])
 unfolding serve command_of
 found n = ap (looked_up (with_a n)) (a_has n)
 

@@ -6,4 +6,5 @@ pub mod OnePair
 pub mod InOrder
 pub mod Fronts
 pub mod Spells
+pub mod Short
 pub mod Stand

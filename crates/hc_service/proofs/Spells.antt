@@ -8,7 +8,7 @@ use Rattle.std.proofs.lemmas.List.Elements.{All-head, All-tail}
 use Rattle.std.proofs.lemmas.Bool.{leb-true, le-leb, eqb-true}
 use Rattle.r2_base.specs.Numbers.{u16_bytes}
 use Rattle.hc_service.specs.Command.{Command, Get, Put, Del, Cas, Scan, Count, two_bytes, sized_field, get_command, put_command, del_command, exchange, cas_command, scan_command, count_command, tagged_command, command_of}
-use Rattle.hc_service.specs.Spelling.{FitsFields, sized, spelling}
+use Rattle.hc_service.specs.Spelling.{FitsCommand, sized, spelling}
 use Rattle.hc_service.specs.Laws.{SpellingIsRead, WhatIsReadIsSpelled}
 
 -- two bytes of a number give it back
@@ -93,7 +93,7 @@ field-read (high ∷ low ∷ more) field rest small is = by (nat_le (two_bytes h
 -- the bytes of a command, which fits its fields
 record IsSpelled (body : List ℕ) (command : Command) : Type 0 where
   spelled : body ≡ spelling command
-  fits : FitsFields command
+  fits : FitsCommand command
 
 -- a field that goes to the end
 field-alone : (bytes field : List ℕ) → IsField bytes field [] → bytes ≡ sized field

@@ -1,5 +1,5 @@
 -- The commands of the key-value service, and the bodies that spell them.
-use Rattle.std.specs.Prelude.{ℕ, ◌+◌, ◌*◌, ◌==◌, if◌then◌else◌, nat_le, List, [], ◌∷◌, length, take, drop, Option, Some, None, option_and_then}
+use Rattle.std.specs.Prelude.{ℕ, ◌+◌, ◌*◌, ◌^◌, ◌==◌, if◌then◌else◌, nat_le, List, [], ◌∷◌, length, take, drop, Option, Some, None, option_and_then}
 
 -- what a request asks for
 pub data Command : Type 0 where
@@ -15,6 +15,29 @@ pub data Command : Type 0 where
   Scan : List ℕ → ℕ → Command
   -- how many pairs there are
   Count : Command
+
+-- the first byte of a body says what it asks for: it is a letter, G, P, D, C, S or N
+abbrev pub get_tag : ℕ
+get_tag = 0x47
+
+abbrev pub put_tag : ℕ
+put_tag = 0x50
+
+abbrev pub del_tag : ℕ
+del_tag = 0x44
+
+abbrev pub cas_tag : ℕ
+cas_tag = 0x43
+
+abbrev pub scan_tag : ℕ
+scan_tag = 0x53
+
+abbrev pub count_tag : ℕ
+count_tag = 0x4E
+
+-- what two bytes can hold: the length of a field and the limit of a scan are below it
+abbrev pub field_limit : ℕ
+field_limit = 2 ^ 16
 
 -- the number that two bytes spell, the greater first
 abbrev pub two_bytes : ℕ → ℕ → ℕ
@@ -57,15 +80,15 @@ abbrev pub count_command : List ℕ → Option Command
 count_command [] = Some Count
 count_command (_ ∷ _) = None
 
--- what stands behind the first byte, by that byte, which is a letter: G, P, D, C, S or N
+-- what stands after the first byte, by that byte
 abbrev pub tagged_command : ℕ → List ℕ → Option Command
 tagged_command tag rest =
-    if tag == 0x47 then option_and_then get_command (sized_field rest)
-    else if tag == 0x50 then option_and_then put_command (sized_field rest)
-    else if tag == 0x44 then option_and_then del_command (sized_field rest)
-    else if tag == 0x43 then option_and_then cas_command (sized_field rest)
-    else if tag == 0x53 then option_and_then scan_command (sized_field rest)
-    else if tag == 0x4E then count_command rest
+    if tag == get_tag then option_and_then get_command (sized_field rest)
+    else if tag == put_tag then option_and_then put_command (sized_field rest)
+    else if tag == del_tag then option_and_then del_command (sized_field rest)
+    else if tag == cas_tag then option_and_then cas_command (sized_field rest)
+    else if tag == scan_tag then option_and_then scan_command (sized_field rest)
+    else if tag == count_tag then count_command rest
     else None
 
 -- the command that a body spells

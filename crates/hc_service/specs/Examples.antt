@@ -2,7 +2,7 @@
 use Rattle.std.specs.Prelude.{◌≡◌, ℕ, ◌+◌, List, [], ◌∷◌, length, Some, None}
 use Rattle.std.specs.FinMap as map
 use Rattle.r2_base.specs.declared.entry.Kind.TheVariants.{Blank, Write, Read}
-use Rattle.hc_service.specs.Service.{Contents, answered, pair_bytes, scanned, serve, written}
+use Rattle.hc_service.specs.Service.{Contents, answered, done, full, most_bytes, most_scanned, pair_bytes, scanned, serve, written}
 use Rattle.hc_service.specs.Replies.{Operation, reply_at}
 
 -- the key a, which is the byte 0x61, with one value
@@ -35,12 +35,13 @@ pub record RepliesInLog : Type 0 where
   pub found : reply_at four_entries 3 ≡ Some (0 ∷ 0 ∷ 0 ∷ 0 ∷ 0 ∷ 0 ∷ 0 ∷ 3 ∷ 0 ∷ 1 ∷ [])
   pub outside : reply_at four_entries 5 ≡ None
 
--- one pair, whose key and value have 1,073,741,824 bytes together, is set, and one with a byte more isn't
+-- one pair, whose key and value have as many bytes together as may be, is set, and one with a byte more isn't
 pub record StoreIsFull (key value : List ℕ) : Type 0 where
-  pub last : length key + length value ≡ 1073741824 → written map.empty (map.insert map.empty key value) ≡ answered (map.insert map.empty key value) 0 []
-  pub over : length key + length value ≡ 1073741825 → written map.empty (map.insert map.empty key value) ≡ answered map.empty 5 []
+  pub last : length key + length value ≡ most_bytes → written map.empty (map.insert map.empty key value) ≡ answered (map.insert map.empty key value) done []
+  pub over : length key + length value ≡ most_bytes + 1 → written map.empty (map.insert map.empty key value) ≡ answered map.empty full []
 
--- one pair, which takes 65,527 bytes with its lengths, is in the reply to a scan, and one with a byte more isn't
+-- one pair, which takes with its lengths as many bytes as the value of a reply may have, is in the reply to a scan, and one
+-- with a byte more isn't
 pub record ScanIsFull (key value : List ℕ) : Type 0 where
-  pub last : 4 + length key + length value ≡ 65527 → scanned (map.insert map.empty key value) [] 1 ≡ pair_bytes (key, value)
-  pub over : 4 + length key + length value ≡ 65528 → scanned (map.insert map.empty key value) [] 1 ≡ []
+  pub last : 4 + length key + length value ≡ most_scanned → scanned (map.insert map.empty key value) [] 1 ≡ pair_bytes (key, value)
+  pub over : 4 + length key + length value ≡ most_scanned + 1 → scanned (map.insert map.empty key value) [] 1 ≡ []

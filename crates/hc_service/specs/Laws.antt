@@ -4,8 +4,8 @@ use Rattle.std.specs.List.{flat_map}
 use Rattle.r2_base.specs.declared.entry.Kind.{Kind}
 use Rattle.r2_base.specs.declared.entry.Kind.TheVariants.{Read}
 use Rattle.hc_service.specs.Command.{Command, command_of}
-use Rattle.hc_service.specs.Spelling.{FitsFields, spelling}
-use Rattle.hc_service.specs.Service.{Contents, most_bytes, most_scanned, pair_bytes, pairs_from, scanned, serve, size_of}
+use Rattle.hc_service.specs.Spelling.{FitsCommand, spelling}
+use Rattle.hc_service.specs.Service.{Contents, done, most_bytes, most_scanned, pair_bytes, pairs_from, scanned, serve, size_of}
 use Rattle.hc_service.specs.Replies.{Operation, reply_at}
 use Rattle.hc_service.specs.Examples.{StoreIsFull, ScanIsFull}
 
@@ -16,7 +16,7 @@ ReadsChangeNothing = (contents : Contents) (body : List ℕ) → (serve contents
 -- so does a request that isn't carried out
 abbrev pub RefusalsChangeNothing : Type 0
 RefusalsChangeNothing =
-    (contents : Contents) (kind : Kind) (body : List ℕ) → (serve contents kind body).status ≢ 0 → (serve contents kind body).contents ≡ contents
+    (contents : Contents) (kind : Kind) (body : List ℕ) → (serve contents kind body).status ≢ done → (serve contents kind body).contents ≡ contents
 
 -- keys and values never have too many bytes together
 abbrev pub StaysWithinItsSize : Type 0
@@ -29,12 +29,12 @@ LimitsAreReached = (key value : List ℕ) → StoreIsFull key value × ScanIsFul
 
 -- the bytes that spell a command are read as that command
 abbrev pub SpellingIsRead : Type 0
-SpellingIsRead = (command : Command) → FitsFields command → command_of (spelling command) ≡ Some command
+SpellingIsRead = (command : Command) → FitsCommand command → command_of (spelling command) ≡ Some command
 
 -- no other bytes are read as it
 abbrev pub WhatIsReadIsSpelled : Type 0
 WhatIsReadIsSpelled =
-    (command : Command) (body : List ℕ) → All (λ b. b < 256) body → command_of body ≡ Some command → (body ≡ spelling command) × FitsFields command
+    (command : Command) (body : List ℕ) → All (λ b. b < 256) body → command_of body ≡ Some command → (body ≡ spelling command) × FitsCommand command
 
 -- of the pairs from a key on these were given, in their order, and these weren't: none that the limits allow is left out
 pub record IsScan (contents : Contents) (key : List ℕ) (limit : ℕ) (given left : List (List ℕ × List ℕ)) : Type 0 where

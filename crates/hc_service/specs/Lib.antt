@@ -5,5 +5,7 @@ pub mod Asked
 pub mod Tree
 pub mod State
 pub mod Spelling
+pub mod Short
+pub mod Operations
 pub mod Examples
 pub mod Laws

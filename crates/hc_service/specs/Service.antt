@@ -18,9 +18,33 @@ Contents = map.FinMap (slice_cmp nat_cmp) (List ℕ)
 abbrev pub most_bytes : ℕ
 most_bytes = 1073741824
 
--- how many bytes the value of a reply to a scan may have
+-- how many bytes the value of a reply to a scan may have: with the index and the status before it, a reply has most_reply
 abbrev pub most_scanned : ℕ
 most_scanned = 65527
+
+-- the status of a request that was carried out
+abbrev pub done : ℕ
+done = 0
+
+-- of one whose key isn't there
+abbrev pub absent : ℕ
+absent = 1
+
+-- of an exchange that found another value than the old one
+abbrev pub different : ℕ
+different = 2
+
+-- of one whose body spells no command
+abbrev pub malformed : ℕ
+malformed = 3
+
+-- of a request to read that asks for a change
+abbrev pub read_only : ℕ
+read_only = 4
+
+-- of one after which keys and values would have too many bytes together
+abbrev pub full : ℕ
+full = 5
 
 -- the bytes of a key and its value
 abbrev pub pair_size : List ℕ × List ℕ → ℕ
@@ -42,23 +66,23 @@ answered contents status value = record { contents = contents; status = status; 
 
 -- a change is made, unless the keys and values would have too many bytes
 abbrev pub written : Contents → Contents → Served
-written contents changed = if nat_le (size_of changed) most_bytes then answered changed 0 [] else answered contents 5 []
+written contents changed = if nat_le (size_of changed) most_bytes then answered changed done [] else answered contents full []
 
 -- the value that was looked for, or that there is none
 abbrev pub looked_up : Contents → Option (List ℕ) → Served
-looked_up contents (Some value) = answered contents 0 value
-looked_up contents None = answered contents 1 []
+looked_up contents (Some value) = answered contents done value
+looked_up contents None = answered contents absent []
 
 -- a key that has a value is taken out
 abbrev pub taken_out : Contents → List ℕ → Option (List ℕ) → Served
-taken_out contents key (Some value) = answered (map.remove contents key) 0 []
-taken_out contents key None = answered contents 1 []
+taken_out contents key (Some value) = answered (map.remove contents key) done []
+taken_out contents key None = answered contents absent []
 
 -- the new value is set where the present one is the old one
 abbrev pub exchanged : Contents → List ℕ → List ℕ → List ℕ → Option (List ℕ) → Served
 exchanged contents key old new (Some present) =
-    if bytes_eq present old then written contents (map.insert contents key new) else answered contents 2 present
-exchanged contents key old new None = answered contents 1 []
+    if bytes_eq present old then written contents (map.insert contents key new) else answered contents different present
+exchanged contents key old new None = answered contents absent []
 
 -- a pair in a reply: the key and the value, each with its length in two bytes before it
 unfoldable pub pair_bytes : List ℕ × List ℕ → List ℕ
@@ -80,18 +104,18 @@ scanned contents key limit = flat_map pair_bytes (fitting most_scanned (take lim
 
 -- a change was asked for under this kind: a request to read gets a refusal, any other what the change gives
 abbrev pub changing : Contents → Kind → Served → Served
-changing contents Read changed = answered contents 4 []
+changing contents Read changed = answered contents read_only []
 changing contents _ changed = changed
 
 -- a command under the kind of its request
 abbrev pub executed : Contents → Kind → Option Command → Served
-executed contents kind None = answered contents 3 []
+executed contents kind None = answered contents malformed []
 executed contents kind (Some (Get key)) = looked_up contents (map.get contents key)
 executed contents kind (Some (Put key value)) = changing contents kind (written contents (map.insert contents key value))
 executed contents kind (Some (Del key)) = changing contents kind (taken_out contents key (map.get contents key))
 executed contents kind (Some (Cas key old new)) = changing contents kind (exchanged contents key old new (map.get contents key))
-executed contents kind (Some (Scan key limit)) = answered contents 0 (scanned contents key limit)
-executed contents kind (Some Count) = answered contents 0 (u64_bytes (map.len contents))
+executed contents kind (Some (Scan key limit)) = answered contents done (scanned contents key limit)
+executed contents kind (Some Count) = answered contents done (u64_bytes (map.len contents))
 
 -- one request is served
 unfoldable pub serve : Contents → Kind → List ℕ → Served

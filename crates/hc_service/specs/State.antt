@@ -1,5 +1,5 @@
 -- What a service is at a moment: what it keeps, and how many requests it has executed.
-use Rattle.std.specs.Prelude.{ℕ, ◌+◌, ◌<◌}
+use Rattle.std.specs.Prelude.{ℕ, ◌+◌, ◌<◌, ◌^◌}
 use Rattle.std.specs.Coded.{Coded, coded_list, coded_ℕ}
 use Rattle.std.specs.FinMap as map
 use Rattle.hc_service.specs.Service.{Contents}
@@ -25,6 +25,10 @@ after_write s contents = record { contents = contents; writes = s.writes + 1; re
 -- one request to read more
 abbrev pub after_admission : State → State
 after_admission s = record { contents = s.contents; writes = s.writes; reads = s.reads + 1 }
+
+-- fewer requests than this are executed, to write and to read
+abbrev pub most_counted : ℕ
+most_counted = 2 ^ 60
 
 -- both counts are below a number
 pub record IsCountedBelow (n : ℕ) (s : State) : Type 0 where

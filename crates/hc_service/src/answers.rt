@@ -2,7 +2,7 @@ ghost use Rattle.std.specs.Prelude.{◌≡◌, [], IfOk, OnOk, OnErr};
 ghost use Rattle.std.specs.FinMap as map;
 ghost use Rattle.r2_base.specs.declared.entry.Kind.TheVariants.{Write, Read};
 ghost use Rattle.r2_base.specs.Numbers.{u64_bytes};
-ghost use Rattle.hc_service.specs.Service.{looked_up, written, taken_out, exchanged, scanned, executed};
+ghost use Rattle.hc_service.specs.Service.{done, looked_up, written, taken_out, exchanged, scanned, executed};
 ghost use Rattle.hc_service.specs.Asked.{read_as};
 
 use crate::asked::Asked;
@@ -137,7 +137,7 @@ fn exchange(
 }
 
 fn scan(store: &Store, alloc: Global, key: &[u8], limit: u16) -> Result<Reply, NoMemory>
-    ensures status { IfOk result (λ reply. reply.status ≡ 0) }
+    ensures status { IfOk result (λ reply. reply.status ≡ done) }
     ensures value { IfOk result (λ reply. reply.value ≡ scanned store.now key.now limit) }
 {
     let key = bytes_of(alloc, key)?;
@@ -148,7 +148,7 @@ fn scan(store: &Store, alloc: Global, key: &[u8], limit: u16) -> Result<Reply, N
 }
 
 fn count(store: &Store, alloc: Global) -> Result<Reply, NoMemory>
-    ensures status { IfOk result (λ reply. reply.status ≡ 0) }
+    ensures status { IfOk result (λ reply. reply.status ≡ done) }
     ensures value { IfOk result (λ reply. reply.value ≡ u64_bytes (map.len store.now)) }
 {
     let mut out = Vec::new(alloc);

@@ -2,6 +2,7 @@
 
 ghost use Rattle.hc_service.specs.Examples.{RequestsInOrder, RepliesInLog};
 ghost use Rattle.hc_service.specs.Laws.{ReadsChangeNothing, RefusalsChangeNothing, StaysWithinItsSize, LimitsAreReached, SpellingIsRead, WhatIsReadIsSpelled, ScanIsLongestFront, RepliesStand};
+ghost use Rattle.hc_service.specs.Short.{AnswersAreShort, PayloadsAreNineLonger, ValuesStayShort, RepliesAreShort};
 
 /// A few requests in their order have these replies.
 pub fn requests_in_order()
@@ -51,4 +52,25 @@ pub fn a_scan_is_the_longest_front()
 /// The reply to an entry stays what it is, whatever entries come behind it.
 pub fn replies_stand()
     ensures { RepliesStand }
+{}
+
+/// Where the values that are kept fit the body of a request, a request whose body fits its limit leaves such values, and its
+/// answer's value fits a reply.
+pub fn answers_are_short()
+    ensures { AnswersAreShort }
+{}
+
+/// The payload of a reply has nine bytes before the value.
+pub fn payloads_are_nine_longer()
+    ensures { PayloadsAreNineLonger }
+{}
+
+/// After a log whose bodies fit their limit, the values that are kept fit it, too.
+pub fn values_stay_short()
+    ensures { ValuesStayShort }
+{}
+
+/// The replies to the entries of such a log have at most 65,536 bytes.
+pub fn replies_are_short()
+    ensures { RepliesAreShort }
 {}

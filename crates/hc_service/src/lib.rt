@@ -6,12 +6,14 @@ mod asked;
 mod command;
 mod kv;
 pub mod laws;
+mod limits;
 mod reply;
 mod service;
 mod store;
 
 pub use kv::{Admitted, Kv};
-pub use reply::Reply;
+pub use limits::{MOST_BYTES, MOST_FIELD, MOST_SCANNED};
+pub use reply::{Reply, payload_of};
 pub use service::Service;
 
 #[cfg(test)]

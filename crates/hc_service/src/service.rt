@@ -1,7 +1,7 @@
-ghost use Rattle.std.specs.Prelude.{◌≡◌, ◌<◌, ◌^◌, IfOk, OnOk, OnErr};
+ghost use Rattle.std.specs.Prelude.{◌≡◌, ◌<◌, IfOk, OnOk, OnErr};
 ghost use Rattle.r2_base.specs.declared.entry.Kind.TheVariants.{Write, Read};
 ghost use Rattle.hc_service.specs.Service.{serve};
-ghost use Rattle.hc_service.specs.State.{State, after_write, after_admission};
+ghost use Rattle.hc_service.specs.State.{State, after_write, after_admission, most_counted};
 
 use crate::reply::Reply;
 use r2_base::NoMemory;
@@ -31,7 +31,7 @@ pub trait Service: Sync + Drop {
 
     /// Counts a request to read, of which there are fewer than 2^60: a replica's log and a server's turns have far fewer.
     fn admit(&mut self) -> Self::Ticket
-        requires { (state self.old).reads < 2 ^ 60 }
+        requires { (state self.old).reads < most_counted }
         ensures { state self.new ≡ after_admission (state self.old) };
 
     /// Executes a request to read that was counted.
@@ -41,7 +41,7 @@ pub trait Service: Sync + Drop {
 
     /// Counts and executes a request to write. Where memory runs out nothing has changed.
     fn apply(&mut self, alloc: Global, body: &[u8]) -> Result<Reply, NoMemory>
-        requires { (state self.old).writes < 2 ^ 60 }
+        requires { (state self.old).writes < most_counted }
         ensures state { OnOk result (state self.new ≡ after_write (state self.old) (serve (state self.old).contents Write body.now).contents) }
         ensures status { IfOk result (λ reply. reply.status ≡ (serve (state self.old).contents Write body.now).status) }
         ensures value { IfOk result (λ reply. reply.value ≡ (serve (state self.old).contents Write body.now).value) }

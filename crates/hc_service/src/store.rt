@@ -5,18 +5,13 @@ ghost use Rattle.std.specs.FinMap as map;
 ghost use Rattle.hc_service.specs.Tree.{found_size};
 ghost use Rattle.hc_service.specs.Service.{most_bytes, most_scanned, pair_bytes, fitting, scanned, size_of};
 
+use crate::limits::{MOST_BYTES, MOST_SCANNED};
 use r2_base::{Bytes, Listed, NoMemory, push_u16};
 use std::alloc::Global;
 use std::collections::BTreeMap;
 use std::collections::btree_map::Range;
 use std::marker::Model;
 use std::ops::Bound;
-
-/// How many bytes all keys and values may have together.
-const MOST_BYTES: u128 = 1_073_741_824;
-
-/// How many bytes the value of a reply to a scan may have.
-const MOST_SCANNED: u128 = 65_527;
 
 /// The pairs of keys and values in the order of their keys, and how many bytes they have.
 #[derive(Drop)]
@@ -121,7 +116,7 @@ fn bytes_with(others: u64, key: usize, value: usize) -> Option<u64>
     ensures fits { is_some result ≡ nat_le (others + (key + value)) most_bytes }
 {
     let bytes = others as u128 + (key as u128 + value as u128);
-    if bytes <= MOST_BYTES {
+    if bytes <= MOST_BYTES as u128 {
         Some(bytes as u64)
     } else {
         None
@@ -153,7 +148,7 @@ fn push_pair(out: &mut Vec<u8>, key: &Bytes, value: &Bytes) -> Result<bool, NoMe
     ensures bytes { IfOk result (λ fits. out.new.items ≡ (if fits then out.old.items ++ pair_bytes (key.now, value.now) else out.old.items)) }
 {
     let size = 4 + key.len() as u128 + value.len() as u128;
-    if out.len() as u128 + size > MOST_SCANNED {
+    if out.len() as u128 + size > MOST_SCANNED as u128 {
         return Ok(false);
     }
     push_u16(out, key.len() as u16)?;

@@ -1,8 +1,8 @@
 ghost use Rattle.std.specs.Prelude.{◌<◌, ◌+◌, ◌^◌, ℕ, length};
-ghost use Rattle.hc_service.specs.State.{IsCountedBelow};
+ghost use Rattle.hc_service.specs.State.{IsCountedBelow, most_counted};
 
-use crate::{Kv, Reply, Service};
-use r2_base::{Bytes, Kind, NoMemory};
+use crate::{Kv, Reply, Service, payload_of};
+use r2_base::{Kind, Listed, NoMemory, push_u16};
 use std::alloc::Global;
 use std::test::Fail;
 
@@ -12,7 +12,7 @@ fn served<V: Service>(
     kind: Kind,
     body: &[u8],
 ) -> Result<Reply, NoMemory>
-    requires { IsCountedBelow (2 ^ 60) (V.state service.old) }
+    requires { IsCountedBelow most_counted (V.state service.old) }
     ensures { (n : ℕ) → IsCountedBelow n (V.state service.old) → IsCountedBelow (n + 1) (V.state service.new) }
 {
     match kind {
@@ -42,15 +42,24 @@ fn are_right<V: Service>(
     Ok(true)
 }
 
-/// The reply to a scan of a store with one pair, whose value has so many bytes.
-fn scanned(alloc: Global, bytes: u16) -> Result<Bytes, NoMemory> {
+/// A body with a key and a value of so many bytes.
+fn body_of(alloc: Global, tag: u8, key: u16, value: u16) -> Result<Vec<u8>, NoMemory> {
+    let mut body = Vec::new(alloc);
+    body.push(tag)?;
+    push_u16(&mut body, key)?;
+    body.resize(3 + key as usize, b'k')?;
+    body.resize(3 + key as usize + value as usize, b'.')?;
+    Ok(body)
+}
+
+/// How many bytes a scan gives of a store with two pairs: the keys have one byte and two, and the values so many.
+fn scanned(alloc: Global, first: u16, second: u16) -> Result<usize, NoMemory> {
     let mut service = Kv::new(alloc);
-    let mut body = Vec::from_slice(alloc, b"P\x00\x01k")?;
-    body.resize(4 + bytes as usize, b'.')?;
-    let _reply = service.apply(alloc, body.as_slice())?;
+    let _first = service.apply(alloc, body_of(alloc, b'P', 1, first)?.as_slice())?;
+    let _second = service.apply(alloc, body_of(alloc, b'P', 2, second)?.as_slice())?;
     let ticket = service.admit();
     let reply = service.read(alloc, ticket, b"S\x00\x00\xff\xff")?;
-    Ok(reply.value)
+    Ok(reply.value.len())
 }
 
 #[test]
@@ -113,9 +122,44 @@ fn each_command_has_its_replies(rt: HostRuntime) -> Result<(), Fail> {
 }
 
 #[test]
-fn a_scan_gives_65527_bytes_and_no_more(rt: HostRuntime) -> Result<(), Fail> {
-    assert_eq!(rt; scanned(rt.alloc(), 65_521)?.len(), 65_526);
-    assert_eq!(rt; scanned(rt.alloc(), 65_522)?.len(), 65_527);
-    assert_eq!(rt; scanned(rt.alloc(), 65_523)?.len(), 0);
+fn the_longest_value_and_what_fits_a_reply_beside_it(rt: HostRuntime) -> Result<(), Fail> {
+    assert_eq!(rt; body_of(rt.alloc(), b'P', 1, 61_436)?.len(), 61_440);
+    assert_eq!(rt; scanned(rt.alloc(), 61_435, 4_080)?, 65_526);
+    assert_eq!(rt; scanned(rt.alloc(), 61_436, 4_080)?, 65_527);
+    assert_eq!(rt; scanned(rt.alloc(), 61_436, 4_081)?, 61_441);
+    Ok(())
+}
+
+#[test]
+fn the_longest_key_is_found(rt: HostRuntime) -> Result<(), Fail> {
+    let mut service = Kv::new(rt.alloc());
+    let put = body_of(rt.alloc(), b'P', 61_437, 0)?;
+    assert_eq!(rt; put.len(), 61_440);
+    let done = service.apply(rt.alloc(), put.as_slice())?;
+    let ticket = service.admit();
+    let found = service.read(
+        rt.alloc(),
+        ticket,
+        body_of(rt.alloc(), b'G', 61_437, 0)?.as_slice(),
+    )?;
+    let ticket = service.admit();
+    let absent = service.read(
+        rt.alloc(),
+        ticket,
+        body_of(rt.alloc(), b'G', 61_436, 0)?.as_slice(),
+    )?;
+    assert_eq!(rt; (done.status, found.status, absent.status), (0, 0, 1));
+    Ok(())
+}
+
+#[test]
+fn a_payload_is_index_status_and_value(rt: HostRuntime) -> Result<(), Fail> {
+    let reply = Reply {
+        status: 2,
+        value: Listed::from_vec(Vec::from_slice(rt.alloc(), b"v")?),
+    };
+    let payload = payload_of(rt.alloc(), 258, &reply)?;
+    let bytes: &[u8] = b"\x00\x00\x00\x00\x00\x00\x01\x02\x02v";
+    assert_eq!(rt; payload.as_slice(), bytes);
     Ok(())
 }

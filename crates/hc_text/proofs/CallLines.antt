@@ -7,7 +7,7 @@ use Rattle.hex.specs.Hex.{is_hex_digit}
 use Rattle.hex.proofs.HexLemmas.{decode_of-ok}
 use Rattle.r2_base.specs.Text.{IsSplit}
 use Rattle.hc_service.specs.Command.{Command, Get, Put, Del, Cas, Scan, Count}
-use Rattle.hc_service.specs.Spelling.{FitsFields, spelling}
+use Rattle.hc_service.specs.Spelling.{FitsCommand, spelling}
 use Rattle.hc_text.specs.declared.call.Call.{Call}
 use Rattle.hc_script.specs.declared.text_fault.TextFault.{TextFault}
 use Rattle.hc_script.specs.declared.text_fault.TextFault.TheVariants.{Outside, Memory}
@@ -190,7 +190,7 @@ pub record SaysCommand (word rest : List ℕ) (call : Call) : Type 0 where
   pub command : Command
   pub verb : word ≡ verb_of command
   pub texts : Texts command rest
-  pub fits : FitsFields command
+  pub fits : FitsCommand command
   pub asked : call ≡ call_of command
 
 abbrev pub GivesRaw : List ℕ → List ℕ → Call → Type 0
@@ -225,29 +225,29 @@ call_with read body = record { read = read; body = body }
 abbrev letter : List ℕ → ℕ
 letter text = get_or text 0 0
 
-get_command : (command : Command) (rest : List ℕ) → codes "get" ≡ verb_of command → Texts command rest → FitsFields command → (call : Call) → call ≡ call_of command
+get_command : (command : Command) (rest : List ℕ) → codes "get" ≡ verb_of command → Texts command rest → FitsCommand command → (call : Call) → call ≡ call_of command
     → (key : List ℕ) × IsValueText key rest × (length key < 2 ^ 16) × (call ≡ call_of (Get key))
 get_command (Get key) rest verb texts fits call asked = (key, texts, fits, asked)
 get_command other rest verb texts fits call asked = absurd (omega (arith, ap letter verb))
 
-put_command : (command : Command) (rest : List ℕ) → codes "put" ≡ verb_of command → Texts command rest → FitsFields command → (call : Call) → call ≡ call_of command
+put_command : (command : Command) (rest : List ℕ) → codes "put" ≡ verb_of command → Texts command rest → FitsCommand command → (call : Call) → call ≡ call_of command
     → (key : List ℕ) × (value : List ℕ) × Spaced (IsValueText key) (IsValueText value) rest × (length key < 2 ^ 16) × (call ≡ call_of (Put key value))
 put_command (Put key value) rest verb texts fits call asked = (key, value, texts, fits, asked)
 put_command other rest verb texts fits call asked = absurd (omega (arith, ap letter verb))
 
-del_command : (command : Command) (rest : List ℕ) → codes "del" ≡ verb_of command → Texts command rest → FitsFields command → (call : Call) → call ≡ call_of command
+del_command : (command : Command) (rest : List ℕ) → codes "del" ≡ verb_of command → Texts command rest → FitsCommand command → (call : Call) → call ≡ call_of command
     → (key : List ℕ) × IsValueText key rest × (length key < 2 ^ 16) × (call ≡ call_of (Del key))
 del_command (Del key) rest verb texts fits call asked = (key, texts, fits, asked)
 del_command other rest verb texts fits call asked = absurd (omega (arith, ap letter verb))
 
-cas_command : (command : Command) (rest : List ℕ) → codes "cas" ≡ verb_of command → Texts command rest → FitsFields command → (call : Call) → call ≡ call_of command
+cas_command : (command : Command) (rest : List ℕ) → codes "cas" ≡ verb_of command → Texts command rest → FitsCommand command → (call : Call) → call ≡ call_of command
     → (key : List ℕ) × (old : List ℕ) × (new : List ℕ) × Spaced (IsValueText key) (Spaced (IsValueText old) (IsValueText new)) rest
     × (length key < 2 ^ 16) × (length old < 2 ^ 16) × (call ≡ call_of (Cas key old new))
 cas_command (Cas key old new) rest verb texts fits call asked = (key, old, new, texts, fits.0, fits.1, asked)
 cas_command Count rest verb texts fits call asked = absurd texts
 cas_command other rest verb texts fits call asked = absurd (omega (arith, ap letter verb))
 
-scan_command : (command : Command) (rest : List ℕ) → codes "scan" ≡ verb_of command → Texts command rest → FitsFields command → (call : Call) → call ≡ call_of command
+scan_command : (command : Command) (rest : List ℕ) → codes "scan" ≡ verb_of command → Texts command rest → FitsCommand command → (call : Call) → call ≡ call_of command
     → (key : List ℕ) × (limit : ℕ) × Spaced (IsValueText key) (IsLimitText limit) rest × (length key < 2 ^ 16) × (call ≡ call_of (Scan key limit))
 scan_command (Scan key limit) rest verb texts fits call asked = (key, limit, texts, fits.0, asked)
 scan_command other rest verb texts fits call asked = absurd (omega (arith, ap letter verb))

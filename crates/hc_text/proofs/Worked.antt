@@ -4,7 +4,7 @@ use Rattle.std.specs.Prelude.{slice_get}
 use Rattle.clap.proofs.OnLiterals.{clap_on_literals}
 use Rattle.hex.proofs.HexLemmas.{decode_of-ok}
 use Rattle.hc_service.specs.Command.{Command, Get, Put, Del, Cas, Scan, Count}
-use Rattle.hc_service.specs.Spelling.{FitsFields}
+use Rattle.hc_service.specs.Spelling.{FitsCommand}
 use Rattle.hc_service.specs.Replies.{payload_of}
 use Rattle.hc_service.proofs.Spells.{a_spelling_is_read}
 use Rattle.hc_text.specs.Call.{IsValueText, Says, Spaced}
@@ -27,7 +27,7 @@ rest_is_short text s =
     let size = ap length s.joined ∙ length-append s.word (32 ∷ s.rest) in
     (omega (arith, size), omega (arith, size))
 
-fields_fit : (command : Command) (line : List ℕ) → Says command line → length line < 2 ^ 16 → FitsFields command
+fields_fit : (command : Command) (line : List ℕ) → Says command line → length line < 2 ^ 16 → FitsCommand command
 fields_fit (Get key) line s short = omega (arith, (rest_is_short line s).1, value_is_short key s.rest s.behind)
 fields_fit (Put key value) line s short =
     omega (arith, (rest_is_short line s).1, (rest_is_short s.rest s.behind).0, value_is_short key s.behind.word s.behind.first)

@@ -3,7 +3,7 @@ use Rattle.std.specs.Prelude.{◌≡◌, ◌≢◌, ◌⊎◌, ◌<◌, ◌≤�
 use Rattle.std.specs.Fmt.{decimal}
 use Rattle.hex.specs.Hex.{decode_of}
 use Rattle.hc_service.specs.Command.{Command, Get, Put, Del, Cas, Scan, Count}
-use Rattle.hc_service.specs.Spelling.{FitsFields, spelling}
+use Rattle.hc_service.specs.Spelling.{FitsCommand, spelling}
 use Rattle.hc_text.specs.declared.call.Call.{Call}
 
 -- a byte that prints, but for the space
@@ -70,7 +70,7 @@ call_of command = record { read = is_reading command; body = spelling command }
 pub record AsksService (line : List ℕ) (call : Call) : Type 0 where
   pub command : Command
   pub said : Says command line
-  pub fits : FitsFields command
+  pub fits : FitsCommand command
   pub asked : call ≡ call_of command
 
 -- how a body that is given by its bytes shall be served: r as a read, w as a write

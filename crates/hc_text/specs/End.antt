@@ -1,7 +1,7 @@
 -- The line that a client prints for the end of a call.
-use Rattle.std.specs.Prelude.{ℕ, List, [], ◌∷◌, ◌++◌, length, take, drop, slice_index, nat_lt, if◌then◌else◌, codes}
+use Rattle.std.specs.Prelude.{ℕ, List, [], ◌∷◌, ◌++◌, length, drop, slice_index, nat_lt, if◌then◌else◌, codes}
 use Rattle.std.specs.Fmt.{decimal}
-use Rattle.std.specs.Int.{w64, from_be_bytes}
+use Rattle.byteorder.specs.Endian.{big_number}
 use Rattle.hex.specs.Hex.{encode_upper}
 use Rattle.r2_client.specs.declared.call_end.CallEnd.{CallEnd}
 use Rattle.r2_client.specs.declared.call_end.CallEnd.TheVariants.{Reply, Rejected, TimedOut}
@@ -19,7 +19,7 @@ served_text index status value = codes "reply " ++ decimal index ++ codes " " ++
 unfoldable pub reply_text : List ℕ → List ℕ
 reply_text payload =
     if nat_lt (length payload) 9 then codes "short " ++ hex_or_dash payload
-    else served_text (from_be_bytes w64 (take 8 payload)) (slice_index payload 8) (drop 9 payload)
+    else served_text (big_number 8 payload) (slice_index payload 8) (drop 9 payload)
 
 -- how a call ended
 abbrev pub said_text : CallEnd → List ℕ

@@ -1,5 +1,5 @@
 ghost use Rattle.std.specs.Prelude.{◌≡◌, ◌≢◌, ◌≤◌, ◌∷◌, ◌++◌, List, [], true, false, All, Any, IfOk, OnOk, MatchResult};
-ghost use Rattle.r2_base.specs.declared.addr.Addr.{Addr as Address};
+ghost use Rattle.r2_base.specs.declared.addr.Addr.{Addr as AddrSpec};
 ghost use Rattle.r2_base.specs.Addr.{IsAddrText};
 ghost use Rattle.hc_text.specs.Words.{IsAddrList};
 
@@ -11,7 +11,7 @@ use std::alloc::Global;
 pub(crate) fn read_addr_list(alloc: Global, text: &[u8], most: u64) -> Result<Addrs, TextFault>
     requires { 1 ≤ most }
     ensures found { IfOk result (λ addrs. IsAddrList most addrs text.now) }
-    ensures only { (addrs : List Address) → IsAddrList most addrs text.now → MatchResult result (λ r. r ≡ addrs) (λ e. e ≡ TextFault.Memory) }
+    ensures only { (addrs : List AddrSpec) → IsAddrList most addrs text.now → MatchResult result (λ r. r ≡ addrs) (λ e. e ≡ TextFault.Memory) }
 {
     let mut addrs = Vec::new(alloc);
     let mut left = text;
@@ -29,8 +29,8 @@ pub(crate) fn read_addr_list(alloc: Global, text: &[u8], most: u64) -> Result<Ad
 
 /// The list with its last address.
 fn end_list(addrs: Vec<Addr>, last: &[u8]) -> Result<Addrs, TextFault>
-    ensures found { IfOk result (λ r. (a : Address) × IsAddrText a last.now × All (λ b. b ≢ a) addrs.items × (r ≡ addrs.items ++ a ∷ [])) }
-    ensures only { (a : Address) → IsAddrText a last.now → All (λ b. b ≢ a) addrs.items
+    ensures found { IfOk result (λ r. (a : AddrSpec) × IsAddrText a last.now × All (λ b. b ≢ a) addrs.items × (r ≡ addrs.items ++ a ∷ [])) }
+    ensures only { (a : AddrSpec) → IsAddrText a last.now → All (λ b. b ≢ a) addrs.items
         → MatchResult result (λ r. r ≡ addrs.items ++ a ∷ []) (λ e. e ≡ TextFault.Memory) }
 {
     let mut addrs = addrs;
@@ -42,8 +42,8 @@ fn end_list(addrs: Vec<Addr>, last: &[u8]) -> Result<Addrs, TextFault>
 
 /// Appends the address that the text names, which may not stand there yet.
 fn push_addr(addrs: &mut Vec<Addr>, text: &[u8]) -> Result<(), TextFault>
-    ensures found { OnOk result ((a : Address) × IsAddrText a text.now × All (λ b. b ≢ a) addrs.old.items × (addrs.new.items ≡ addrs.old.items ++ a ∷ [])) }
-    ensures only { (a : Address) → IsAddrText a text.now → All (λ b. b ≢ a) addrs.old.items
+    ensures found { OnOk result ((a : AddrSpec) × IsAddrText a text.now × All (λ b. b ≢ a) addrs.old.items × (addrs.new.items ≡ addrs.old.items ++ a ∷ [])) }
+    ensures only { (a : AddrSpec) → IsAddrText a text.now → All (λ b. b ≢ a) addrs.old.items
         → MatchResult result (λ _. addrs.new.items ≡ addrs.old.items ++ a ∷ []) (λ e. e ≡ TextFault.Memory) }
 {
     let Some(addr) = read_addr(text) else {

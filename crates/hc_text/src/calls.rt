@@ -1,7 +1,7 @@
 ghost use Rattle.std.specs.Prelude.{◌≡◌, ◌<◌, ◌^◌, ℕ, Bool, List, Some, Err, length, IfOk, IfSome, MatchResult};
 ghost use Rattle.hc_service.specs.Command.{Get, Put, Del, Cas, Scan, Count};
 ghost use Rattle.hc_text.specs.Call.{call_of, mode_word, Is, IsCallLine, IsLimitText, IsValueText, Spaced};
-ghost use Rattle.hc_text.specs.declared.call.Call.{Call as Asked};
+ghost use Rattle.hc_text.specs.declared.call.Call.{Call as CallSpec};
 
 use crate::body::{cas_body, count_body, del_body, get_body, put_body, scan_body};
 use crate::call::Call;
@@ -17,8 +17,8 @@ use std::alloc::Global;
 /// `raw` is the value itself; that of another call is the service's spelling of the command.
 pub fn client_line(alloc: Global, line: &[u8]) -> Result<Call, TextFault>
     ensures found { IfOk result (λ call. IsCallLine line.now call) }
-    ensures only { (call : Asked) → IsCallLine line.now call → MatchResult result (λ r. r ≡ call) (λ e. e ≡ TextFault.Memory) }
-    ensures outside { result ≡ Err TextFault.Outside → (call : Asked) → IsCallLine line.now call → ⊥ }
+    ensures only { (call : CallSpec) → IsCallLine line.now call → MatchResult result (λ r. r ≡ call) (λ e. e ≡ TextFault.Memory) }
+    ensures outside { result ≡ Err TextFault.Outside → (call : CallSpec) → IsCallLine line.now call → ⊥ }
 {
     if line == b"count".as_slice() {
         return count_call(alloc);
@@ -153,7 +153,7 @@ fn scan_call(alloc: Global, rest: &[u8]) -> Result<Call, TextFault>
 
 fn raw_call(alloc: Global, rest: &[u8]) -> Result<Call, TextFault>
     ensures found { IfOk result (λ call. Spaced (Is (mode_word call.read)) (IsValueText call.body) rest.now) }
-    ensures only { (call : Asked) → Spaced (Is (mode_word call.read)) (IsValueText call.body) rest.now
+    ensures only { (call : CallSpec) → Spaced (Is (mode_word call.read)) (IsValueText call.body) rest.now
         → MatchResult result (λ r. r ≡ call) (λ e. e ≡ TextFault.Memory) }
 {
     let Some((mode, value)) = split_once(rest, b' ') else {

@@ -1,9 +1,9 @@
 ghost use Rattle.std.specs.Prelude.{◌≡◌, ℕ, List, Some, map, slice_get, codes, IfOk, IfSome, MatchResult};
 ghost use Rattle.std.specs.String.{string_bytes};
 ghost use Rattle.clap.specs.Words.{app_of, found_of, rows_of};
-ghost use Rattle.r2_base.specs.declared.addr.Addr.{Addr as Address};
-ghost use Rattle.hc_text.specs.declared.meant.Meant.{Meant as Meaning};
-ghost use Rattle.hc_text.specs.declared.policy.Policy.{Policy as Kind};
+ghost use Rattle.r2_base.specs.declared.addr.Addr.{Addr as AddrSpec};
+ghost use Rattle.hc_text.specs.declared.meant.Meant.{Meant as MeantSpec};
+ghost use Rattle.hc_text.specs.declared.policy.Policy.{Policy as PolicySpec};
 ghost use Rattle.hc_text.specs.Options.{HasOption};
 ghost use Rattle.hc_text.specs.Words.{client_command, command_of, policy_word, Means, Says, SaysClient};
 
@@ -21,7 +21,7 @@ use std::alloc::Global;
 pub(crate) fn client_meaning(alloc: Global, words: &[String]) -> Result<Meant, TextFault>
     requires { slice_get (map (λ w. string_bytes w) words.now) 0 ≡ Some (codes "client") }
     ensures found { IfOk result (λ m. Means (map (λ w. string_bytes w) words.now) m) }
-    ensures only { (m : Meaning) → Means (map (λ w. string_bytes w) words.now) m
+    ensures only { (m : MeantSpec) → Means (map (λ w. string_bytes w) words.now) m
         → MatchResult result (λ r. r ≡ m) (λ e. e ≡ TextFault.Memory) }
 {
     let command = client_command(alloc)?;
@@ -48,7 +48,7 @@ fn client_command<'a>(alloc: Global) -> Result<Command<'a>, NoMemory>
 fn read_client(alloc: Global, matches: &ArgMatches) -> Result<Meant, TextFault>
     ensures kind { IfOk result (λ m. command_of m ≡ client_command) }
     ensures found { IfOk result (λ m. Says m (rows_of (found_of matches.now))) }
-    ensures only { (listen : Address) (to : List Address) (policy : Kind) (wait tries tick_ms turns : ℕ)
+    ensures only { (listen : AddrSpec) (to : List AddrSpec) (policy : PolicySpec) (wait tries tick_ms turns : ℕ)
         → SaysClient listen to policy wait tries tick_ms turns (rows_of (found_of matches.now))
         → MatchResult result (λ r. r ≡ Meant.Client listen to policy wait tries tick_ms turns) (λ e. e ≡ TextFault.Memory) }
 {
@@ -87,7 +87,7 @@ fn read_client(alloc: Global, matches: &ArgMatches) -> Result<Meant, TextFault>
 
 fn policy_given(matches: &ArgMatches) -> Option<Policy>
     ensures found { IfSome result (λ p. HasOption (rows_of (found_of matches.now)) (codes "policy") (λ text. text ≡ policy_word p)) }
-    ensures only { (p : Kind) → HasOption (rows_of (found_of matches.now)) (codes "policy") (λ text. text ≡ policy_word p) → result ≡ Some p }
+    ensures only { (p : PolicySpec) → HasOption (rows_of (found_of matches.now)) (codes "policy") (λ text. text ≡ policy_word p) → result ≡ Some p }
 {
     let text = text_of(matches, "policy")?;
     read_policy(text)
@@ -95,7 +95,7 @@ fn policy_given(matches: &ArgMatches) -> Option<Policy>
 
 fn read_policy(text: &str) -> Option<Policy>
     ensures found { IfSome result (λ p. text.now ≡ policy_word p) }
-    ensures only { (p : Kind) → text.now ≡ policy_word p → result ≡ Some p }
+    ensures only { (p : PolicySpec) → text.now ≡ policy_word p → result ≡ Some p }
 {
     if text == "fixed" {
         return Some(Policy::Fixed);

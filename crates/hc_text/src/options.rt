@@ -1,7 +1,7 @@
 ghost use Rattle.std.specs.Prelude.{◌≡◌, ◌≤◌, ℕ, List, [], false, Option, map, option_map, IfOk, IfErr, IfSome, MatchResult};
 ghost use Rattle.std.specs.String.{string_bytes};
 ghost use Rattle.clap.specs.Words.{app_of, first_of, found_of, rows_of, rule_of, with_rule};
-ghost use Rattle.r2_base.specs.declared.addr.Addr.{Addr as Address};
+ghost use Rattle.r2_base.specs.declared.addr.Addr.{Addr as AddrSpec};
 ghost use Rattle.r2_base.specs.Addr.{IsAddrText};
 ghost use Rattle.hc_text.specs.Words.{IsAddrList};
 ghost use Rattle.hc_text.specs.Options.{command_with, defaulted, optional, required, rows_of_words, AreTaken, HasOption, IsNumberText, IsSimpleCommand, MayHaveAddr};
@@ -83,7 +83,7 @@ pub(crate) fn text_of<'a>(matches: &ArgMatches<'a>, name: &str) -> Option<&'a st
 /// The address that the option names.
 pub(crate) fn addr_of(matches: &ArgMatches, name: &str) -> Option<Addr>
     ensures found { IfSome result (λ a. HasOption (rows_of (found_of matches.now)) name.now (IsAddrText a)) }
-    ensures only { (a : Address) → HasOption (rows_of (found_of matches.now)) name.now (IsAddrText a) → result ≡ Some a }
+    ensures only { (a : AddrSpec) → HasOption (rows_of (found_of matches.now)) name.now (IsAddrText a) → result ≡ Some a }
 {
     let text = text_of(matches, name)?;
     read_addr(text.as_bytes())
@@ -92,7 +92,7 @@ pub(crate) fn addr_of(matches: &ArgMatches, name: &str) -> Option<Addr>
 /// The address that the option names, where it is given.
 pub(crate) fn optional_addr_of(matches: &ArgMatches, name: &str) -> Option<Option<Addr>>
     ensures found { IfSome result (λ a. MayHaveAddr (rows_of (found_of matches.now)) name.now a) }
-    ensures only { (a : Option Address) → MayHaveAddr (rows_of (found_of matches.now)) name.now a → result ≡ Some a }
+    ensures only { (a : Option AddrSpec) → MayHaveAddr (rows_of (found_of matches.now)) name.now a → result ≡ Some a }
 {
     let Some(text) = text_of(matches, name) else {
         return Some(None);
@@ -123,7 +123,7 @@ pub(crate) fn addrs_of(
 ) -> Result<Addrs, TextFault>
     requires { 1 ≤ most }
     ensures found { IfOk result (λ addrs. HasOption (rows_of (found_of matches.now)) name.now (IsAddrList most addrs)) }
-    ensures only { (addrs : List Address) → HasOption (rows_of (found_of matches.now)) name.now (IsAddrList most addrs)
+    ensures only { (addrs : List AddrSpec) → HasOption (rows_of (found_of matches.now)) name.now (IsAddrList most addrs)
         → MatchResult result (λ r. r ≡ addrs) (λ e. e ≡ TextFault.Memory) }
 {
     let Some(text) = text_of(matches, name) else {

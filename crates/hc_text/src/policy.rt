@@ -1,6 +1,8 @@
 ghost use Rattle.std.specs.Prelude.{◌≡◌};
 ghost use Rattle.hc_text.specs.Policy.{policy_number};
 
+use r2_header::policy::{FIXED, JBSQ, REPLICATED, REPLICATED_READ};
+
 /// How a client's requests reach their server.
 ///
 /// R2P2 (USENIX ATC 2019) has the first two as its policies; the third is HovercRaft's (EuroSys 2020).
@@ -14,13 +16,13 @@ pub enum Policy {
     Replicated,
 }
 
-/// The policy number of a call: 0 FIXED, 1 JBSQ, 2 REPLICATED, and 3 REPLICATED_READ where a replicated call only reads.
+/// The number in the header of a call's policy, which is REPLICATED_READ where a replicated call only reads.
 pub fn policy_of(policy: Policy, read: bool) -> u8
     ensures { result ≡ policy_number policy read }
 {
     match policy {
-        Policy::Fixed => 0,
-        Policy::Jbsq => 1,
-        Policy::Replicated => { if read { 3 } else { 2 } }
+        Policy::Fixed => FIXED,
+        Policy::Jbsq => JBSQ,
+        Policy::Replicated => { if read { REPLICATED_READ } else { REPLICATED } }
     }
 }

@@ -1,8 +1,8 @@
 ghost use Rattle.std.specs.Prelude.{◌≡◌, ◌↔◌, ℕ, List, Option, Some, map, slice_get, codes, IsTrue, IfOk, MatchResult};
 ghost use Rattle.std.specs.String.{string_bytes};
 ghost use Rattle.clap.specs.Words.{app_of, found_of, rows_of};
-ghost use Rattle.r2_base.specs.declared.addr.Addr.{Addr as Address};
-ghost use Rattle.hc_text.specs.declared.meant.Meant.{Meant as Meaning};
+ghost use Rattle.r2_base.specs.declared.addr.Addr.{Addr as AddrSpec};
+ghost use Rattle.hc_text.specs.declared.meant.Meant.{Meant as MeantSpec};
 ghost use Rattle.hc_text.specs.Words.{command_of, replay_command, IsAlone, Means, Says, SaysReplay};
 
 use crate::meant::Meant;
@@ -18,7 +18,7 @@ use std::alloc::Global;
 pub(crate) fn replay_meaning(alloc: Global, words: &[String]) -> Result<Meant, TextFault>
     requires { slice_get (map (λ w. string_bytes w) words.now) 0 ≡ Some (codes "replay") }
     ensures found { IfOk result (λ m. Means (map (λ w. string_bytes w) words.now) m) }
-    ensures only { (m : Meaning) → Means (map (λ w. string_bytes w) words.now) m
+    ensures only { (m : MeantSpec) → Means (map (λ w. string_bytes w) words.now) m
         → MatchResult result (λ r. r ≡ m) (λ e. e ≡ TextFault.Memory) }
 {
     let command = replay_command(alloc)?;
@@ -43,7 +43,7 @@ fn replay_command<'a>(alloc: Global) -> Result<Command<'a>, NoMemory>
 fn read_replay(alloc: Global, matches: &ArgMatches) -> Result<Meant, TextFault>
     ensures kind { IfOk result (λ m. command_of m ≡ replay_command) }
     ensures found { IfOk result (λ m. Says m (rows_of (found_of matches.now))) }
-    ensures only { (members : List Address) (me : ℕ) (aggregator : Option Address) (bound election : ℕ)
+    ensures only { (members : List AddrSpec) (me : ℕ) (aggregator : Option AddrSpec) (bound election : ℕ)
         → SaysReplay members me aggregator bound election (rows_of (found_of matches.now))
         → MatchResult result (λ r. r ≡ Meant.Replay members me aggregator bound election) (λ e. e ≡ TextFault.Memory) }
 {

@@ -1,8 +1,8 @@
 ghost use Rattle.std.specs.Prelude.{◌≡◌, ℕ, List, Some, map, slice_get, codes, IfOk, MatchResult};
 ghost use Rattle.std.specs.String.{string_bytes};
 ghost use Rattle.clap.specs.Words.{app_of, found_of, rows_of};
-ghost use Rattle.r2_base.specs.declared.addr.Addr.{Addr as Address};
-ghost use Rattle.hc_text.specs.declared.meant.Meant.{Meant as Meaning};
+ghost use Rattle.r2_base.specs.declared.addr.Addr.{Addr as AddrSpec};
+ghost use Rattle.hc_text.specs.declared.meant.Meant.{Meant as MeantSpec};
 ghost use Rattle.hc_text.specs.Words.{command_of, router_command, Means, Says, SaysRouter};
 
 use crate::meant::Meant;
@@ -16,7 +16,7 @@ use std::alloc::Global;
 pub(crate) fn router_meaning(alloc: Global, words: &[String]) -> Result<Meant, TextFault>
     requires { slice_get (map (λ w. string_bytes w) words.now) 0 ≡ Some (codes "router") }
     ensures found { IfOk result (λ m. Means (map (λ w. string_bytes w) words.now) m) }
-    ensures only { (m : Meaning) → Means (map (λ w. string_bytes w) words.now) m
+    ensures only { (m : MeantSpec) → Means (map (λ w. string_bytes w) words.now) m
         → MatchResult result (λ r. r ≡ m) (λ e. e ≡ TextFault.Memory) }
 {
     let command = router_command(alloc)?;
@@ -42,7 +42,7 @@ fn router_command<'a>(alloc: Global) -> Result<Command<'a>, NoMemory>
 fn read_router(alloc: Global, matches: &ArgMatches) -> Result<Meant, TextFault>
     ensures kind { IfOk result (λ m. command_of m ≡ router_command) }
     ensures found { IfOk result (λ m. Says m (rows_of (found_of matches.now))) }
-    ensures only { (listen : Address) (servers : List Address) (n workers tick_ms turns : ℕ)
+    ensures only { (listen : AddrSpec) (servers : List AddrSpec) (n workers tick_ms turns : ℕ)
         → SaysRouter listen servers n workers tick_ms turns (rows_of (found_of matches.now))
         → MatchResult result (λ r. r ≡ Meant.Router listen servers n workers tick_ms turns) (λ e. e ≡ TextFault.Memory) }
 {

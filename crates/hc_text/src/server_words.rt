@@ -1,8 +1,8 @@
 ghost use Rattle.std.specs.Prelude.{◌≡◌, ℕ, List, Option, Some, map, slice_get, codes, IfOk, IfSome, MatchResult};
 ghost use Rattle.std.specs.String.{string_bytes};
 ghost use Rattle.clap.specs.Words.{app_of, found_of, rows_of};
-ghost use Rattle.r2_base.specs.declared.addr.Addr.{Addr as Address};
-ghost use Rattle.hc_text.specs.declared.meant.Meant.{Meant as Meaning};
+ghost use Rattle.r2_base.specs.declared.addr.Addr.{Addr as AddrSpec};
+ghost use Rattle.hc_text.specs.declared.meant.Meant.{Meant as MeantSpec};
 ghost use Rattle.hc_text.specs.Words.{command_of, server_command, Means, Says, SaysServer};
 
 use crate::meant::Meant;
@@ -18,7 +18,7 @@ use std::alloc::Global;
 pub(crate) fn server_meaning(alloc: Global, words: &[String]) -> Result<Meant, TextFault>
     requires { slice_get (map (λ w. string_bytes w) words.now) 0 ≡ Some (codes "server") }
     ensures found { IfOk result (λ m. Means (map (λ w. string_bytes w) words.now) m) }
-    ensures only { (m : Meaning) → Means (map (λ w. string_bytes w) words.now) m
+    ensures only { (m : MeantSpec) → Means (map (λ w. string_bytes w) words.now) m
         → MatchResult result (λ r. r ≡ m) (λ e. e ≡ TextFault.Memory) }
 {
     let command = server_command(alloc)?;
@@ -45,7 +45,7 @@ fn server_command<'a>(alloc: Global) -> Result<Command<'a>, NoMemory>
 fn read_server(matches: &ArgMatches) -> Option<Meant>
     ensures kind { IfSome result (λ m. command_of m ≡ server_command) }
     ensures found { IfSome result (λ m. Says m (rows_of (found_of matches.now))) }
-    ensures only { (listen : Address) (router : Option Address) (tick_ms turns : ℕ) → SaysServer listen router tick_ms turns (rows_of (found_of matches.now))
+    ensures only { (listen : AddrSpec) (router : Option AddrSpec) (tick_ms turns : ℕ) → SaysServer listen router tick_ms turns (rows_of (found_of matches.now))
         → result ≡ Some (Meant.Server listen router tick_ms turns) }
 {
     let listen = addr_of(matches, "listen")?;

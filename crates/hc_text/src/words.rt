@@ -1,6 +1,6 @@
 ghost use Rattle.std.specs.Prelude.{◌≡◌, ◌↔◌, map, slice_get, Some, Err, IsTrue, IfOk, MatchResult};
 ghost use Rattle.std.specs.String.{string_bytes};
-ghost use Rattle.hc_text.specs.declared.meant.Meant.{Meant as Meaning};
+ghost use Rattle.hc_text.specs.declared.meant.Meant.{Meant as MeantSpec};
 ghost use Rattle.hc_text.specs.Words.{Means};
 
 use crate::client_words::client_meaning;
@@ -17,9 +17,9 @@ use std::alloc::Global;
 /// `--name=value`, each at most once.
 pub fn meaning(alloc: Global, words: &[String]) -> Result<Meant, TextFault>
     ensures found { IfOk result (λ m. Means (map (λ w. string_bytes w) words.now) m) }
-    ensures only { (m : Meaning) → Means (map (λ w. string_bytes w) words.now) m
+    ensures only { (m : MeantSpec) → Means (map (λ w. string_bytes w) words.now) m
         → MatchResult result (λ r. r ≡ m) (λ e. e ≡ TextFault.Memory) }
-    ensures outside { result ≡ Err TextFault.Outside → (m : Meaning) → Means (map (λ w. string_bytes w) words.now) m → ⊥ }
+    ensures outside { result ≡ Err TextFault.Outside → (m : MeantSpec) → Means (map (λ w. string_bytes w) words.now) m → ⊥ }
 {
     if has_name(words, "router") {
         return router_meaning(alloc, words);

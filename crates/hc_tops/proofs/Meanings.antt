@@ -1,12 +1,10 @@
 -- What holds of the commands that words mean, and of their ends.
-use Rattle.std.proofs.Common.{◌≡◌, ◌⊎◌, inl, inr, ℕ, ◌≤◌, ◌<◌, ◌^◌, List, [], length, Option, refl, sym, arith}
-use Rattle.r2_base.specs.declared.addr.Addr.{Addr}
+use Rattle.std.proofs.Common.{inl, ℕ, List, Option, arith}
 use Rattle.r2_link.specs.declared.lane.Item.{Item}
 use Rattle.r2_link.proofs.Streams.{Consumes-nil}
 use Rattle.hc_text.specs.declared.meant.Meant.{Meant}
 use Rattle.hc_text.specs.declared.meant.Meant.TheVariants.{Router, Server, Client, Replay}
 use Rattle.hc_text.specs.Words.{Means}
-use Rattle.hc_status.specs.declared.status.Status.{Status}
 use Rattle.hc_status.specs.declared.status.Status.TheVariants.{BadWords, Memory}
 use Rattle.hc_loops.proofs.Told.{IsKept-refl, Passes-none}
 use Rattle.hc_routing.proofs.Routes.{routes-nothing}

@@ -1,5 +1,7 @@
 -- What the words of a command line make the program do.
-use Rattle.std.specs.Prelude.{◌≡◌, ◌⊎◌, ℕ, ◌≤◌, ◌^◌, List, [], length, Option, Some}
+use Rattle.std.specs.Prelude.{◌≡◌, ◌⊎◌, ℕ, ◌≤◌, List, [], length, Option, Some}
+use Rattle.r2_base.specs.Limits.{most_turns}
+use Rattle.r2_jbsq.specs.Limits.{greatest_n, most_servers}
 use Rattle.r2_link.specs.declared.lane.Item.{Item}
 use Rattle.r2_link.specs.Told.{IsKept}
 use Rattle.hc_text.specs.declared.meant.Meant.{Meant}
@@ -61,8 +63,8 @@ IsRefusal _ = ⊥
 -- the numbers of a command are within the limits of the call that runs it
 abbrev pub IsWithin : Meant → Type 0
 IsWithin (Router listen servers n workers tick_ms turns) =
-    (1 ≤ length servers) × (length servers ≤ 64) × (1 ≤ n) × (n ≤ 16) × (workers ≡ 1) × (1 ≤ tick_ms) × (turns ≤ 2 ^ 56)
-IsWithin (Server listen router tick_ms turns) = (1 ≤ tick_ms) × (turns ≤ 2 ^ 56)
+    (1 ≤ length servers) × (length servers ≤ most_servers) × (1 ≤ n) × (n ≤ greatest_n) × (workers ≡ 1) × (1 ≤ tick_ms) × (turns ≤ most_turns)
+IsWithin (Server listen router tick_ms turns) = (1 ≤ tick_ms) × (turns ≤ most_turns)
 IsWithin (Client listen to policy wait tries tick_ms turns) = (1 ≤ length to) × (length to ≤ 7) × (1 ≤ wait) × (1 ≤ tries) × (1 ≤ tick_ms)
 IsWithin (Replay members me aggregator bound election) =
     IsAlone (record { members = members; me = me; aggregator = aggregator; bound = bound; election = election })

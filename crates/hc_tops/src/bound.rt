@@ -1,4 +1,6 @@
 ghost use Rattle.std.specs.Prelude.{◌≡◌, ◌≤◌, ◌^◌, ℕ, List, Some, [], length};
+ghost use Rattle.r2_base.specs.Limits.{most_turns};
+ghost use Rattle.r2_jbsq.specs.Limits.{greatest_n, most_servers};
 ghost use Rattle.r2_link.specs.Faults.{Rose};
 ghost use Rattle.r2_link.specs.Told.{IsKept};
 ghost use Rattle.hc_status.specs.declared.status.Status.TheVariants.{SourceFault, SinkFault, LinkFault, ClockFault};
@@ -73,7 +75,7 @@ pub(crate) fn serve_bound<L: Link, C: Clock>(
     pace: Pace,
 ) -> Status
     requires tick { 1 ≤ pace.tick_ms }
-    requires turns { pace.turns ≤ 2 ^ 56 }
+    requires turns { pace.turns ≤ most_turns }
 
     ensures ran { BehindBinding
         (Passes (record { left = L.left link.old; sent = L.sent link.old; clock = C.left clock.old })
@@ -109,12 +111,12 @@ pub(crate) fn route_bound<K: Sink, L: Twin, C: Clock>(
     pace: Pace,
 ) -> Status
     requires some_server { 1 ≤ length servers }
-    requires few_servers { length servers ≤ 64 }
+    requires few_servers { length servers ≤ most_servers }
     requires some_request { 1 ≤ n }
-    requires few_requests { n ≤ 16 }
+    requires few_requests { n ≤ greatest_n }
     requires one_worker { workers ≡ 1 }
     requires tick { 1 ≤ pace.tick_ms }
-    requires turns { pace.turns ≤ 2 ^ 56 }
+    requires turns { pace.turns ≤ most_turns }
 
     ensures ran { Routes (record { me = listen; servers = servers; n = n }) pace
         (record { lanes = L.lanes link.old; sent = L.sent link.old; clock = C.left clock.old })

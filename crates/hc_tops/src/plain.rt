@@ -1,6 +1,7 @@
 ghost use Rattle.std.specs.Prelude.{◌≡◌, ◌≤◌, ◌^◌, List, Some, IfOk};
-ghost use Rattle.r2_base.specs.declared.datagram.Datagram.{Datagram as Sent};
-ghost use Rattle.r2_base.specs.declared.event.Event.{Event as Happening};
+ghost use Rattle.r2_base.specs.Limits.{most_turns};
+ghost use Rattle.r2_base.specs.declared.datagram.Datagram.{Datagram as DatagramSpec};
+ghost use Rattle.r2_base.specs.declared.event.Event.{Event as EventSpec};
 ghost use Rattle.r2_link.specs.Faults.{Rose};
 ghost use Rattle.r2_link.specs.Told.{IsKept};
 ghost use Rattle.hc_service.specs.State.{new_state};
@@ -50,7 +51,7 @@ pub fn serve_plain<V: Service, L: Link, C: Clock>(
 ) -> Status
     requires fresh { V.state service ≡ new_state }
     requires tick { 1 ≤ pace.tick_ms }
-    requires turns { pace.turns ≤ 2 ^ 56 }
+    requires turns { pace.turns ≤ most_turns }
 
     // What was taken in, and what a new server sends at that.
     ensures ran { Serves (PlainSends me router) (PlainSends me router) pace

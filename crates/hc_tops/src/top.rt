@@ -2,7 +2,7 @@ ghost use Rattle.std.specs.Prelude.{◌≡◌, ◌≤◌, ◌^◌, [], length, m
 ghost use Rattle.std.specs.String.{string_bytes};
 ghost use Rattle.r2_link.specs.Faults.{Rose};
 ghost use Rattle.r2_link.specs.Told.{IsKept};
-ghost use Rattle.hc_text.specs.declared.meant.Meant.{Meant as Meaning};
+ghost use Rattle.hc_text.specs.declared.meant.Meant.{Meant as MeantSpec};
 ghost use Rattle.hc_text.specs.Words.{Means};
 ghost use Rattle.hc_status.specs.Stops.{Reports};
 ghost use Rattle.hc_status.specs.Texts.{error_text};
@@ -158,19 +158,19 @@ fn run_plain_words<S: Source, K: Sink, L: Link, C: Clock>(
     link: &mut L,
     clock: &mut C,
 ) -> Status
-    ensures refused { result ≡ BadWords → (m : Meaning) → Means (map (λ w. string_bytes w) words.now) m → IsPlain m → ⊥ }
-    ensures only_refused { ((m : Meaning) → Means (map (λ w. string_bytes w) words.now) m → IsPlain m → ⊥) → IsRefusal result }
+    ensures refused { result ≡ BadWords → (m : MeantSpec) → Means (map (λ w. string_bytes w) words.now) m → IsPlain m → ⊥ }
+    ensures only_refused { ((m : MeantSpec) → Means (map (λ w. string_bytes w) words.now) m → IsPlain m → ⊥) → IsRefusal result }
 
-    ensures ran { (m : Meaning) → Means (map (λ w. string_bytes w) words.now) m → IsPlain m → Runs m (S.left source.old) (S.left source.new) (L.lanes link.old) (L.lanes link.new)
+    ensures ran { (m : MeantSpec) → Means (map (λ w. string_bytes w) words.now) m → IsPlain m → Runs m (S.left source.old) (S.left source.new) (L.lanes link.old) (L.lanes link.new)
         (outside (L.left link.old) (L.sent link.old) (C.left clock.old) (K.written sink.old)) (outside (L.left link.new) (L.sent link.new) (C.left clock.new) (K.written sink.new)) result }
 
-    ensures complete { (m : Meaning) → Means (map (λ w. string_bytes w) words.now) m → IsPlain m → EndsWell m (S.left source.old)
+    ensures complete { (m : MeantSpec) → Means (map (λ w. string_bytes w) words.now) m → IsPlain m → EndsWell m (S.left source.old)
         (Rose (S.faults source.old) (S.faults source.new)) (Rose (K.faults sink.old) (K.faults sink.new)) (Rose (L.faults link.old) (L.faults link.new)) (Rose (C.faults clock.old) (C.faults clock.new)) result }
 
-    ensures source_kept { ((m : Meaning) → Means (map (λ w. string_bytes w) words.now) m → IsPlain m → UsesScript m → ⊥) → source.new ≡ source.old }
-    ensures sink_kept { ((m : Meaning) → Means (map (λ w. string_bytes w) words.now) m → IsPlain m → Prints m → ⊥) → sink.new ≡ sink.old }
-    ensures link_kept { ((m : Meaning) → Means (map (λ w. string_bytes w) words.now) m → IsPlain m → UsesLink m → ⊥) → link.new ≡ link.old }
-    ensures clock_kept { ((m : Meaning) → Means (map (λ w. string_bytes w) words.now) m → IsPlain m → UsesLink m → ⊥) → clock.new ≡ clock.old }
+    ensures source_kept { ((m : MeantSpec) → Means (map (λ w. string_bytes w) words.now) m → IsPlain m → UsesScript m → ⊥) → source.new ≡ source.old }
+    ensures sink_kept { ((m : MeantSpec) → Means (map (λ w. string_bytes w) words.now) m → IsPlain m → Prints m → ⊥) → sink.new ≡ sink.old }
+    ensures link_kept { ((m : MeantSpec) → Means (map (λ w. string_bytes w) words.now) m → IsPlain m → UsesLink m → ⊥) → link.new ≡ link.old }
+    ensures clock_kept { ((m : MeantSpec) → Means (map (λ w. string_bytes w) words.now) m → IsPlain m → UsesLink m → ⊥) → clock.new ≡ clock.old }
     ensures lanes { IsKept (L.lanes link.old) (L.lanes link.new) }
     ensures source_fault { result ≡ SourceFault → Rose (S.faults source.old) (S.faults source.new) }
     ensures sink_fault { result ≡ SinkFault → Rose (K.faults sink.old) (K.faults sink.new) }
@@ -196,20 +196,20 @@ fn run_words<S: Source, K: Sink, L: Twin, C: Clock>(
     link: &mut L,
     clock: &mut C,
 ) -> Status
-    ensures refused { result ≡ BadWords → (m : Meaning) → Means (map (λ w. string_bytes w) words.now) m → ⊥ }
-    ensures only_refused { ((m : Meaning) → Means (map (λ w. string_bytes w) words.now) m → ⊥) → IsRefusal result }
+    ensures refused { result ≡ BadWords → (m : MeantSpec) → Means (map (λ w. string_bytes w) words.now) m → ⊥ }
+    ensures only_refused { ((m : MeantSpec) → Means (map (λ w. string_bytes w) words.now) m → ⊥) → IsRefusal result }
 
-    ensures ran { (m : Meaning) → Means (map (λ w. string_bytes w) words.now) m → Runs m (S.left source.old) (S.left source.new) (L.lanes link.old) (L.lanes link.new)
+    ensures ran { (m : MeantSpec) → Means (map (λ w. string_bytes w) words.now) m → Runs m (S.left source.old) (S.left source.new) (L.lanes link.old) (L.lanes link.new)
         (outside (L.left link.old) (L.sent link.old) (C.left clock.old) (K.written sink.old)) (outside (L.left link.new) (L.sent link.new) (C.left clock.new) (K.written sink.new)) result }
 
-    ensures complete { (m : Meaning) → Means (map (λ w. string_bytes w) words.now) m → EndsWell m (S.left source.old)
+    ensures complete { (m : MeantSpec) → Means (map (λ w. string_bytes w) words.now) m → EndsWell m (S.left source.old)
         (Rose (S.faults source.old) (S.faults source.new)) (Rose (K.faults sink.old) (K.faults sink.new)) (Rose (L.faults link.old) (L.faults link.new)) (Rose (C.faults clock.old) (C.faults clock.new)) result }
 
-    ensures source_kept { ((m : Meaning) → Means (map (λ w. string_bytes w) words.now) m → UsesScript m → ⊥) → source.new ≡ source.old }
-    ensures sink_kept { ((m : Meaning) → Means (map (λ w. string_bytes w) words.now) m → Prints m → ⊥) → sink.new ≡ sink.old }
-    ensures link_kept { ((m : Meaning) → Means (map (λ w. string_bytes w) words.now) m → UsesLink m → ⊥) → link.new ≡ link.old }
-    ensures clock_kept { ((m : Meaning) → Means (map (λ w. string_bytes w) words.now) m → UsesLink m → ⊥) → clock.new ≡ clock.old }
-    ensures lanes { ((m : Meaning) → Means (map (λ w. string_bytes w) words.now) m → UsesTwins m → ⊥) → IsKept (L.lanes link.old) (L.lanes link.new) }
+    ensures source_kept { ((m : MeantSpec) → Means (map (λ w. string_bytes w) words.now) m → UsesScript m → ⊥) → source.new ≡ source.old }
+    ensures sink_kept { ((m : MeantSpec) → Means (map (λ w. string_bytes w) words.now) m → Prints m → ⊥) → sink.new ≡ sink.old }
+    ensures link_kept { ((m : MeantSpec) → Means (map (λ w. string_bytes w) words.now) m → UsesLink m → ⊥) → link.new ≡ link.old }
+    ensures clock_kept { ((m : MeantSpec) → Means (map (λ w. string_bytes w) words.now) m → UsesLink m → ⊥) → clock.new ≡ clock.old }
+    ensures lanes { ((m : MeantSpec) → Means (map (λ w. string_bytes w) words.now) m → UsesTwins m → ⊥) → IsKept (L.lanes link.old) (L.lanes link.new) }
     ensures source_fault { result ≡ SourceFault → Rose (S.faults source.old) (S.faults source.new) }
     ensures sink_fault { result ≡ SinkFault → Rose (K.faults sink.old) (K.faults sink.new) }
     ensures link_fault { result ≡ LinkFault → Rose (L.faults link.old) (L.faults link.new) }
@@ -240,22 +240,22 @@ pub fn run_plain<S: Source, K: Sink, E: Sink, L: Link, C: Clock>(
     clock: &mut C,
 ) -> Status
     // The words are refused where they mean nothing, a router or a server, and only there. Want of memory can come first.
-    ensures refused { result ≡ BadWords → (m : Meaning) → Means (map (λ w. string_bytes w) words.now) m → IsPlain m → ⊥ }
-    ensures only_refused { ((m : Meaning) → Means (map (λ w. string_bytes w) words.now) m → IsPlain m → ⊥) → IsRefusal result }
+    ensures refused { result ≡ BadWords → (m : MeantSpec) → Means (map (λ w. string_bytes w) words.now) m → IsPlain m → ⊥ }
+    ensures only_refused { ((m : MeantSpec) → Means (map (λ w. string_bytes w) words.now) m → IsPlain m → ⊥) → IsRefusal result }
 
     // Else the command ran that they mean.
-    ensures ran { (m : Meaning) → Means (map (λ w. string_bytes w) words.now) m → IsPlain m → Runs m (S.left source.old) (S.left source.new) (L.lanes link.old) (L.lanes link.new)
+    ensures ran { (m : MeantSpec) → Means (map (λ w. string_bytes w) words.now) m → IsPlain m → Runs m (S.left source.old) (S.left source.new) (L.lanes link.old) (L.lanes link.new)
         (outside (L.left link.old) (L.sent link.old) (C.left clock.old) (K.written sink.old)) (outside (L.left link.new) (L.sent link.new) (C.left clock.new) (K.written sink.new)) result }
 
     // How a command ends of a script in its grammar, where nothing failed.
-    ensures complete { (m : Meaning) → Means (map (λ w. string_bytes w) words.now) m → IsPlain m → EndsWell m (S.left source.old)
+    ensures complete { (m : MeantSpec) → Means (map (λ w. string_bytes w) words.now) m → IsPlain m → EndsWell m (S.left source.old)
         (Rose (S.faults source.old) (S.faults source.new)) (Rose (K.faults sink.old) (K.faults sink.new)) (Rose (L.faults link.old) (L.faults link.new)) (Rose (C.faults clock.old) (C.faults clock.new)) result }
 
     // What the command doesn't use, or where there is none, is left as it was.
-    ensures source_kept { ((m : Meaning) → Means (map (λ w. string_bytes w) words.now) m → IsPlain m → UsesScript m → ⊥) → source.new ≡ source.old }
-    ensures sink_kept { ((m : Meaning) → Means (map (λ w. string_bytes w) words.now) m → IsPlain m → Prints m → ⊥) → sink.new ≡ sink.old }
-    ensures link_kept { ((m : Meaning) → Means (map (λ w. string_bytes w) words.now) m → IsPlain m → UsesLink m → ⊥) → link.new ≡ link.old }
-    ensures clock_kept { ((m : Meaning) → Means (map (λ w. string_bytes w) words.now) m → IsPlain m → UsesLink m → ⊥) → clock.new ≡ clock.old }
+    ensures source_kept { ((m : MeantSpec) → Means (map (λ w. string_bytes w) words.now) m → IsPlain m → UsesScript m → ⊥) → source.new ≡ source.old }
+    ensures sink_kept { ((m : MeantSpec) → Means (map (λ w. string_bytes w) words.now) m → IsPlain m → Prints m → ⊥) → sink.new ≡ sink.old }
+    ensures link_kept { ((m : MeantSpec) → Means (map (λ w. string_bytes w) words.now) m → IsPlain m → UsesLink m → ⊥) → link.new ≡ link.old }
+    ensures clock_kept { ((m : MeantSpec) → Means (map (λ w. string_bytes w) words.now) m → IsPlain m → UsesLink m → ⊥) → clock.new ≡ clock.old }
     ensures lanes { IsKept (L.lanes link.old) (L.lanes link.new) }
 
     // The errors gain exactly the line of the status, or a front of it where they failed.
@@ -289,23 +289,23 @@ pub fn run<S: Source, K: Sink, E: Sink, L: Twin, C: Clock>(
     clock: &mut C,
 ) -> Status
     // The words are refused where they mean nothing, and only there. Want of memory can come first.
-    ensures refused { result ≡ BadWords → (m : Meaning) → Means (map (λ w. string_bytes w) words.now) m → ⊥ }
-    ensures only_refused { ((m : Meaning) → Means (map (λ w. string_bytes w) words.now) m → ⊥) → IsRefusal result }
+    ensures refused { result ≡ BadWords → (m : MeantSpec) → Means (map (λ w. string_bytes w) words.now) m → ⊥ }
+    ensures only_refused { ((m : MeantSpec) → Means (map (λ w. string_bytes w) words.now) m → ⊥) → IsRefusal result }
 
     // Else the command ran that they mean.
-    ensures ran { (m : Meaning) → Means (map (λ w. string_bytes w) words.now) m → Runs m (S.left source.old) (S.left source.new) (L.lanes link.old) (L.lanes link.new)
+    ensures ran { (m : MeantSpec) → Means (map (λ w. string_bytes w) words.now) m → Runs m (S.left source.old) (S.left source.new) (L.lanes link.old) (L.lanes link.new)
         (outside (L.left link.old) (L.sent link.old) (C.left clock.old) (K.written sink.old)) (outside (L.left link.new) (L.sent link.new) (C.left clock.new) (K.written sink.new)) result }
 
     // How a command ends of a script in its grammar, where nothing failed.
-    ensures complete { (m : Meaning) → Means (map (λ w. string_bytes w) words.now) m → EndsWell m (S.left source.old)
+    ensures complete { (m : MeantSpec) → Means (map (λ w. string_bytes w) words.now) m → EndsWell m (S.left source.old)
         (Rose (S.faults source.old) (S.faults source.new)) (Rose (K.faults sink.old) (K.faults sink.new)) (Rose (L.faults link.old) (L.faults link.new)) (Rose (C.faults clock.old) (C.faults clock.new)) result }
 
     // What the command doesn't use, or where there is none, is left as it was.
-    ensures source_kept { ((m : Meaning) → Means (map (λ w. string_bytes w) words.now) m → UsesScript m → ⊥) → source.new ≡ source.old }
-    ensures sink_kept { ((m : Meaning) → Means (map (λ w. string_bytes w) words.now) m → Prints m → ⊥) → sink.new ≡ sink.old }
-    ensures link_kept { ((m : Meaning) → Means (map (λ w. string_bytes w) words.now) m → UsesLink m → ⊥) → link.new ≡ link.old }
-    ensures clock_kept { ((m : Meaning) → Means (map (λ w. string_bytes w) words.now) m → UsesLink m → ⊥) → clock.new ≡ clock.old }
-    ensures lanes { ((m : Meaning) → Means (map (λ w. string_bytes w) words.now) m → UsesTwins m → ⊥) → IsKept (L.lanes link.old) (L.lanes link.new) }
+    ensures source_kept { ((m : MeantSpec) → Means (map (λ w. string_bytes w) words.now) m → UsesScript m → ⊥) → source.new ≡ source.old }
+    ensures sink_kept { ((m : MeantSpec) → Means (map (λ w. string_bytes w) words.now) m → Prints m → ⊥) → sink.new ≡ sink.old }
+    ensures link_kept { ((m : MeantSpec) → Means (map (λ w. string_bytes w) words.now) m → UsesLink m → ⊥) → link.new ≡ link.old }
+    ensures clock_kept { ((m : MeantSpec) → Means (map (λ w. string_bytes w) words.now) m → UsesLink m → ⊥) → clock.new ≡ clock.old }
+    ensures lanes { ((m : MeantSpec) → Means (map (λ w. string_bytes w) words.now) m → UsesTwins m → ⊥) → IsKept (L.lanes link.old) (L.lanes link.new) }
 
     // The errors gain exactly the line of the status, or a front of it where they failed.
     ensures told { Reports (E.written errors.old) (E.written errors.new) (E.faults errors.old) (E.faults errors.new) (error_text result) }

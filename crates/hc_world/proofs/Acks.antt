@@ -3,11 +3,12 @@ use Rattle.std.proofs.Common.{◌≡◌, ℕ, zero, suc, ◌+◌, ◌<◌, ◌�
 use Rattle.std.proofs.lemmas.Bool.{eqb-true, true≢false}
 use Rattle.std.proofs.lemmas.Option.{same_Some}
 use Rattle.r2_base.specs.declared.entry.Entry.{Entry}
-use Rattle.hc_world.specs.Log.{In, Share, blank_of, term_at}
+use Rattle.r2_base.specs.Entry.{blank_entry}
+use Rattle.hc_world.specs.Log.{In, Share, term_at}
 use Rattle.hc_world.specs.Message.{Order, Ack, Grant}
 use Rattle.hc_world.specs.Rules.{Rule, Rise, Stand, GrantVote, Win, OrderRequest, SendOrder, Confirm, Take, Acknowledge, Crash, after, ack_of, entry_of, grant_of, taken}
 use Rattle.hc_world.specs.Conditions.{Allowed, MayWin}
-use Rattle.hc_world.specs.World.{World, acked, backs, is_won_by, put}
+use Rattle.hc_world.specs.Protocol.{ProtocolState, acked, backs, is_won_by, put}
 use Rattle.hc_world.specs.Kept.{Kept}
 use Rattle.std.proofs.Common.{length-take, length-drop}
 use Rattle.std.proofs.lemmas.List.{drop-take}
@@ -88,7 +89,7 @@ share_max m n xs ys a b = by (cases_le m n)
     by (inl h) = let e : n ≡ max m n = omega (arith, h) in subst (λ (k : ℕ). Share k xs ys) e b
     by (inr h) = let e : m ≡ max m n = omega (arith, h) in subst (λ (k : ℕ). Share k xs ys) e a
 
-module _ (w : World) (k : Kept w) where
+module _ (w : ProtocolState) (k : Kept w) where
   orders_grow : (r : Rule) → Allowed w r → (o : Order) → In o w.orders → IsSlice ((after w r).winner o.term) ((after w r).base o.term) ((after w r).book o.term) o
   orders_grow r a o h =
       let g = grows w k r a in
@@ -124,7 +125,7 @@ module _ (w : World) (k : Kept w) where
   matched_is_the_leaders (Win x) a =
       split
       x
-      (rw (self x) (rw (self (w.term x)) (share_self _ (w.log x ++ blank_of (w.term x) ∷ []) (omega (arith, length-append (w.log x) (blank_of (w.term x) ∷ []))))))
+      (rw (self x) (rw (self (w.term x)) (share_self _ (w.log x ++ blank_entry (w.term x) ∷ []) (omega (arith, length-append (w.log x) (blank_entry (w.term x) ∷ []))))))
       (λ u e. rw e (matched_grown (Win x) a u))
   matched_is_the_leaders (OrderRequest x q p) a =
       split
@@ -182,7 +183,7 @@ module _ (w : World) (k : Kept w) where
   acknowledged_is_the_leaders (Win x) a =
       λ t. split
       x
-      (rw (self x) (acked_before t x (acked w.acks t x) (w.term x) (w.log x) (put w.book (w.term x) (w.log x ++ blank_of (w.term x) ∷ []) t) (blank_of (w.term x)) (acked_grown (Win x) a t x)))
+      (rw (self x) (acked_before t x (acked w.acks t x) (w.term x) (w.log x) (put w.book (w.term x) (w.log x ++ blank_entry (w.term x) ∷ []) t) (blank_entry (w.term x)) (acked_grown (Win x) a t x)))
       (λ u e. rw e (acked_grown (Win x) a t u))
   acknowledged_is_the_leaders (OrderRequest x q p) a =
       λ t. split
@@ -226,14 +227,14 @@ module _ (w : World) (k : Kept w) where
       (λ y h. let was = k.acknowledgements.acks_are_below y h in record { old = was.old; below = omega (arith, was.below, acked_more (ack_of w x m) w.acks y.term y.member) })
   acks_are_below r a = k.acknowledgements.acks_are_below
 
-  -- the bases that a later world has kept were kept before
+  -- the bases that a later state has kept were kept before
   bases_before : (r : Rule) (a : Allowed w r) (t m end : ℕ) → m ≤ length (w.book t) → BasesKeep (after w r) t m end → BasesKeep w t m end
   bases_before r a t m end h b = λ s c after_t before_end won.
       let g = grows w k r a in
       share_shrunk m (w.base s) (w.book t) ((after w r).book t) h (g.books t)
       (subst (λ (xs : List Entry). Share m xs ((after w r).book t)) (g.bases s c won) (b s c after_t before_end (g.winners s c won)))
 
-  -- what a member had of a book it has, if the bases of the later world keep it
+  -- what a member had of a book it has, if the bases of the later state keep it
   old_kept : (r : Rule) (a : Allowed w r) (t m v end : ℕ) → backs w.winner w.acks t m v ≡ true → m ≤ length (w.book t) → w.term v < end → BasesKeep (after w r) t m end
       → Share m (w.log v) ((after w r).book t)
   old_kept r a t m v end backing h later b =
@@ -269,22 +270,22 @@ module _ (w : World) (k : Kept w) where
   acknowledged_is_kept (Win x) a = λ t m v h l b. by t m v (same_or_not t (w.term x)) h l b
     where
       log' : ℕ → List Entry
-      log' = put w.log x (w.log x ++ blank_of (w.term x) ∷ [])
+      log' = put w.log x (w.log x ++ blank_entry (w.term x) ∷ [])
 
       book' : ℕ → List Entry
-      book' = put w.book (w.term x) (w.log x ++ blank_of (w.term x) ∷ [])
+      book' = put w.book (w.term x) (w.log x ++ blank_entry (w.term x) ∷ [])
 
       winner' : ℕ → Option ℕ
       winner' = put w.winner (w.term x) (Some x)
 
       longer : (m u : ℕ) (xs : List Entry) → Share m (w.log u) xs → Share m (log' u) xs
-      longer m u xs s = split x {G = λ u. Share m (w.log u) xs → Share m (log' u) xs} (λ s. rw (self x) (share_before m (w.log x) xs (blank_of (w.term x) ∷ []) s)) (λ u e s. rw e s) u s
+      longer m u xs s = split x {G = λ u. Share m (w.log u) xs → Share m (log' u) xs} (λ s. rw (self x) (share_before m (w.log x) xs (blank_entry (w.term x) ∷ []) s)) (λ u e s. rw e s) u s
 
       own : (m v : ℕ) → m ≤ length (book' (w.term x)) → (winner' (w.term x) ≡ Some v) ⊎ (m ≤ acked w.acks (w.term x) v) → Share m (log' v) (book' (w.term x))
       own m v l (inl e) =
           let same : x ≡ v = same_Some x v (sym (put_same w.winner (w.term x) (Some x)) ∙ e) in
           subst (λ (u : ℕ). Share m (log' u) (book' (w.term x))) same
-          (subst (λ (xs : List Entry). Share m xs (book' (w.term x))) (put_same w.book (w.term x) (w.log x ++ blank_of (w.term x) ∷ []) ∙ sym (put_same w.log x (w.log x ++ blank_of (w.term x) ∷ []))) (share_self m (book' (w.term x)) l))
+          (subst (λ (xs : List Entry). Share m xs (book' (w.term x))) (put_same w.book (w.term x) (w.log x ++ blank_entry (w.term x) ∷ []) ∙ sym (put_same w.log x (w.log x ++ blank_entry (w.term x) ∷ []))) (share_self m (book' (w.term x)) l))
       own m v l (inr e) = none_shared m (log' v) (book' (w.term x)) (nothing_acked x a m v e)
 
       by : (t m v : ℕ) → (t ≡ w.term x) ⊎ ((t == w.term x) ≡ false) → backs winner' w.acks t m v ≡ true → m ≤ length (book' t) → BasesKeep (after w (Win x)) t m (suc (w.term v)) → Share m (log' v) (book' t)
@@ -294,7 +295,7 @@ module _ (w : World) (k : Kept w) where
       by t m v (inr e) h l b =
           longer m v (book' t) (old_kept (Win x) a t m v (suc (w.term v))
           (backs_from w.winner w.acks t m v (subst (λ (o : Option ℕ). (o ≡ Some v) ⊎ (m ≤ acked w.acks t v)) (put_other w.winner (w.term x) (Some x) t e) (backs_cases winner' w.acks t m v h)))
-          (subst (λ (xs : List Entry). m ≤ length xs) (put_other w.book (w.term x) (w.log x ++ blank_of (w.term x) ∷ []) t e) l)
+          (subst (λ (xs : List Entry). m ≤ length xs) (put_other w.book (w.term x) (w.log x ++ blank_entry (w.term x) ∷ []) t e) l)
           (omega arith) b)
   acknowledged_is_kept (OrderRequest x q p) a = λ t m v h l b. by t m v (cases_le m (length (w.book t))) h l b
     where
@@ -396,7 +397,7 @@ module _ (w : World) (k : Kept w) where
   granted_is_kept (Win x) a = λ t m u v g e early later h l b. by t m u v g e early later (same_or_not t (w.term x)) h l b
     where
       book' : ℕ → List Entry
-      book' = put w.book (w.term x) (w.log x ++ blank_of (w.term x) ∷ [])
+      book' = put w.book (w.term x) (w.log x ++ blank_entry (w.term x) ∷ [])
 
       winner' : ℕ → Option ℕ
       winner' = put w.winner (w.term x) (Some x)
@@ -413,7 +414,7 @@ module _ (w : World) (k : Kept w) where
       by t m u v g e early later (inr f) h l b =
           old_granted (Win x) a t m u v g e early later
           (backs_from w.winner w.acks t m v (subst (λ (o : Option ℕ). (o ≡ Some v) ⊎ (m ≤ acked w.acks t v)) (put_other w.winner (w.term x) (Some x) t f) (backs_cases winner' w.acks t m v h)))
-          (subst (λ (xs : List Entry). m ≤ length xs) (put_other w.book (w.term x) (w.log x ++ blank_of (w.term x) ∷ []) t f) l)
+          (subst (λ (xs : List Entry). m ≤ length xs) (put_other w.book (w.term x) (w.log x ++ blank_entry (w.term x) ∷ []) t f) l)
           b
   granted_is_kept (OrderRequest x q p) a = λ t m u v g e early later h l b. by t m u v g e early later (cases_le m (length (w.book t))) h l b
     where

@@ -2,10 +2,11 @@
 use Rattle.std.proofs.Common.{◌≡◌, ℕ, zero, suc, ◌<◌, ◌≤◌, ◌⊎◌, inl, inr, max, Bool, true, false, ◌==◌, ◌&&◌, nat_le, if◌then◌else◌, List, [], length, take, Some, refl, sym, ap, subst, ◌∙◌, arith}
 use Rattle.std.proofs.lemmas.Bool.{and_parts, eqb-true, true≢false}
 use Rattle.r2_base.specs.declared.entry.Entry.{Entry}
-use Rattle.hc_world.specs.Log.{Share, entry_at, is_request, term_at}
+use Rattle.r2_base.specs.Entry.{is_request}
+use Rattle.hc_world.specs.Log.{Share, entry_at, term_at}
 use Rattle.hc_world.specs.Rules.{Rule, after}
 use Rattle.hc_world.specs.Conditions.{Allowed}
-use Rattle.hc_world.specs.World.{World, Committed, IsCommittedIn, backs}
+use Rattle.hc_world.specs.Protocol.{ProtocolState, Committed, IsCommittedIn, backs}
 use Rattle.hc_world.specs.Kept.{Kept}
 use Rattle.std.proofs.Common.{◌*◌, nat_lt, length-take-le, ltb-true, lt-ltb, leb-false}
 use Rattle.std.proofs.lemmas.Bool.Decides.{nat_tests}
@@ -23,7 +24,7 @@ use Rattle.hc_world.proofs.Shares.{share_none, share_self, share_less, share_tak
 use Rattle.hc_world.proofs.Steps.{steps_keep}
 
 -- the test of a commitment, and what it means
-test_true : (w : World) (t m : ℕ) → is_committed w t m ≡ true → Committed w t m
+test_true : (w : ProtocolState) (t m : ℕ) → is_committed w t m ≡ true → Committed w t m
 test_true w t m h =
     let outer = and_parts (nat_lt 0 m && nat_le m (length (w.book t))) ((term_at (w.book t) m == t) && nat_lt w.size (2 * tally w.size (backs w.winner w.acks t m))) h in
     let first = and_parts (nat_lt 0 m) (nat_le m (length (w.book t))) outer.0 in
@@ -35,7 +36,7 @@ test_true w t m h =
       backed = ltb-true w.size (2 * tally w.size (backs w.winner w.acks t m)) second.1;
     }
 
-true_test : (w : World) (t m : ℕ) → Committed w t m → is_committed w t m ≡ true
+true_test : (w : ProtocolState) (t m : ℕ) → Committed w t m → is_committed w t m ≡ true
 true_test w t m c =
     and_from (nat_lt 0 m && nat_le m (length (w.book t))) ((term_at (w.book t) m == t) && nat_lt w.size (2 * tally w.size (backs w.winner w.acks t m)))
     (and_from (nat_lt 0 m) (nat_le m (length (w.book t))) (lt-ltb 0 m c.here) (le-leb m (length (w.book t)) c.within))
@@ -78,7 +79,7 @@ highest_covers (suc n) f v h = by (same_or_not v n) (λ low. highest_covers n f 
     by (inl e) rest = omega (arith, ap f e)
     by (inr e) rest = let low : v < n = grind (arith, nat_tests, e, h) in omega (arith, rest low)
 
-module _ (w : World) (k : Kept w) where
+module _ (w : ProtocolState) (k : Kept w) where
   -- an index that is committed by a later term is above the earlier term's
   later_longer : (t m u n : ℕ) → Committed w t m → Committed w u n → t < u → m < n
   later_longer t m u n c d later = by (cases_le n m)
@@ -234,7 +235,7 @@ module _ (w : World) (k : Kept w) where
       by log (inr f) = twice log f.term f.index f.is f.committed.within
 
 -- the agreed list only grows
-pub agreed_grows : (w : World) (r : Rule) → Kept w → Allowed w r → Share (length (agreed w)) (agreed w) (agreed (after w r))
+pub agreed_grows : (w : ProtocolState) (r : Rule) → Kept w → Allowed w r → Share (length (agreed w)) (agreed w) (agreed (after w r))
 agreed_grows w r k a = by (agreed w) (agreed_is w k).is_one
   where
     by : (log : List Entry) → (log ≡ []) ⊎ IsCommittedFront w log → Share (length log) log (agreed (after w r))

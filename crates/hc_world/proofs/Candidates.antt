@@ -5,7 +5,7 @@ use Rattle.hc_world.specs.Log.{IsNotAhead, last_term}
 use Rattle.hc_world.specs.Message.{VoteRequest, Grant}
 use Rattle.hc_world.specs.Rules.{Rule, Stand, AskVotes, GrantVote, after, grant_of}
 use Rattle.hc_world.specs.Conditions.{Allowed}
-use Rattle.hc_world.specs.World.{World}
+use Rattle.hc_world.specs.Protocol.{ProtocolState}
 use Rattle.hc_world.specs.Kept.{Kept}
 use Rattle.hc_world.specs.Kept.{VoteRequestsTellLogs, VotersAreBehind, TellsItsLog, IsBehindItsCandidate}
 use Rattle.hc_world.proofs.Grows.{grows}
@@ -20,7 +20,7 @@ behind_grows : (granted x : ℕ → ℕ → Option Grant) → ((t v : ℕ) (g : 
 behind_grows granted x grow t g h =
     record { theirs = h.theirs; given = grow t g.candidate h.theirs h.given; own = h.own; behind = h.behind }
 
-module _ (w : World) (k : Kept w) where
+module _ (w : ProtocolState) (k : Kept w) where
   pub vote_requests_tell_logs : (r : Rule) → Allowed w r → VoteRequestsTellLogs (after w r)
   vote_requests_tell_logs (AskVotes x) a =
       let mine = k.votes.candidates_voted_for_themselves x a.competes in

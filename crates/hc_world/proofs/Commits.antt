@@ -2,11 +2,12 @@
 use Rattle.std.proofs.Common.{◌≡◌, ℕ, zero, suc, ◌+◌, ◌<◌, ◌≤◌, ◌⊎◌, inl, inr, max, Bool, true, false, ◌==◌, ◌&&◌, ◌||◌, nat_le, if◌then◌else◌, List, [], ◌∷◌, ◌++◌, length, take, drop, Some, refl, sym, ap, subst, ◌∙◌, arith}
 use Rattle.std.proofs.lemmas.Bool.{eqb-true, true≢false}
 use Rattle.r2_base.specs.declared.entry.Entry.{Entry}
-use Rattle.hc_world.specs.Log.{In, Share, blank_of, entry_at, term_at}
+use Rattle.r2_base.specs.Entry.{blank_entry}
+use Rattle.hc_world.specs.Log.{In, Share, entry_at, term_at}
 use Rattle.hc_world.specs.Message.{Order, Passed, Report}
 use Rattle.hc_world.specs.Rules.{Rule, Rise, Stand, Win, OrderRequest, SendOrder, Confirm, Take, Acknowledge, CommitByCount, CommitByOrder, CommitByAggregate, Aggregate, Apply, Yield, NoteReport, NoteOwnReport, NoteAck, Follow, NoteOrder, Collect, Forget, Crash, after, ack_of, next_passed, entry_of, order_of, taken}
 use Rattle.hc_world.specs.Conditions.{Allowed}
-use Rattle.hc_world.specs.World.{World, Leader, Committed, IsCommittedIn, acked, backs, put, told}
+use Rattle.hc_world.specs.Protocol.{ProtocolState, Leader, Committed, IsCommittedIn, acked, backs, put, told}
 use Rattle.hc_world.specs.Kept.{Kept}
 use Rattle.std.proofs.lemmas.Bool.{leb-true}
 use Rattle.std.proofs.lemmas.Bool.Decides.{nat_tests}
@@ -50,7 +51,7 @@ told_by P t v (o ∷ orders) base each = by (t == o.term) (v == o.leader) refl r
     by true false e f p = p
     by false c e f p = p
 
-module _ (w : World) (k : Kept w) where
+module _ (w : ProtocolState) (k : Kept w) where
   backs_grow : (r : Rule) → Allowed w r → (t m v : ℕ) → backs w.winner w.acks t m v ≡ true → backs (after w r).winner (after w r).acks t m v ≡ true
   backs_grow r a t m v h = backs_from (after w r).winner (after w r).acks t m v (by (backs_cases w.winner w.acks t m v h))
     where
@@ -125,7 +126,7 @@ module _ (w : World) (k : Kept w) where
   commits_are_committed (Win x) a =
       split
       x
-      (rw (self x) (λ h. commit_grows (Win x) a (w.term x) (w.term x) (w.log x) (w.log x ++ blank_of (w.term x) ∷ []) (w.commit x) (omega arith) (λ xs s. share_before (w.commit x) (w.log x) xs (blank_of (w.term x) ∷ []) s) (k.commitments.commits_are_committed x h)))
+      (rw (self x) (λ h. commit_grows (Win x) a (w.term x) (w.term x) (w.log x) (w.log x ++ blank_entry (w.term x) ∷ []) (w.commit x) (omega arith) (λ xs s. share_before (w.commit x) (w.log x) xs (blank_entry (w.term x) ∷ []) s) (k.commitments.commits_are_committed x h)))
       (λ u e. rw e (λ h. commit_grows (Win x) a (w.term u) (w.term u) (w.log u) (w.log u) (w.commit u) (omega arith) (same_log (w.commit u) (w.log u)) (k.commitments.commits_are_committed u h)))
   commits_are_committed (OrderRequest x q p) a =
       split
@@ -307,7 +308,7 @@ module _ (w : World) (k : Kept w) where
   applied_was_passed (Win x) a =
       split
       x
-      (rw (self x) (still_passed x (w.log x ++ blank_of (w.term x) ∷ []) (λ h. share_before (w.commit x) (w.log x) (w.log x) (blank_of (w.term x) ∷ []) (share_self (w.commit x) (w.log x) (commit_within x h)))))
+      (rw (self x) (still_passed x (w.log x ++ blank_entry (w.term x) ∷ []) (λ h. share_before (w.commit x) (w.log x) (w.log x) (blank_entry (w.term x) ∷ []) (share_self (w.commit x) (w.log x) (commit_within x h)))))
       (λ u e. rw e (k.commitments.applied_was_passed u))
   applied_was_passed (OrderRequest x q p) a =
       split

@@ -6,7 +6,7 @@ use Rattle.hc_world.specs.Log.{In, Share}
 use Rattle.hc_world.specs.Message.{VoteRequest, Vote, Order, Ack, AggregateCommit, Refusal, Nack, Request, Grant, Report, Passed, Reply}
 use Rattle.hc_world.specs.Rules.{Rule, Rise, Stand, AskVotes, GrantVote, SendVote, Win, OrderRequest, SendOrder, Acknowledge, Aggregate, Apply, Answer, AnswerAgain, AskBody, GiveBody, NoteReport, NoteOwnReport, Refuse, RejectOrder, SendRequest, after, ack_of, grant_of}
 use Rattle.hc_world.specs.Conditions.{Allowed, MayWin}
-use Rattle.hc_world.specs.World.{World, acked, is_early_for, voted}
+use Rattle.hc_world.specs.Protocol.{ProtocolState, acked, is_early_for, voted}
 use Rattle.hc_world.specs.Kept.{Kept}
 use Rattle.hc_world.specs.Parts.{Grows}
 use Rattle.hc_world.proofs.LaterLeaders.{early_grant}
@@ -18,7 +18,7 @@ use Rattle.hc_world.proofs.Shares.{share_none, share_self, share_behind}
 pub voted_by : (granted : ℕ → ℕ → Option Grant) (t v : ℕ) (g : Grant) → granted t v ≡ Some g → voted granted t v ≡ Some g.candidate
 voted_by granted t v g e = ap (λ (o : Option Grant). voted (λ s u. o) t v) e
 
-module _ (w : World) (k : Kept w) where
+module _ (w : ProtocolState) (k : Kept w) where
   -- a candidate that has a majority of its term's votes is the first
   pub unwon : (v : ℕ) → MayWin w v → w.winner (w.term v) ≡ None
   unwon v a = by (w.winner (w.term v)) refl

@@ -5,7 +5,7 @@ use Rattle.std.proofs.lemmas.Option.{same_Some}
 use Rattle.r2_base.specs.declared.entry.Entry.{Entry}
 use Rattle.hc_world.specs.Log.{IsNotAhead, Share, last_term, term_at}
 use Rattle.hc_world.specs.Message.{Grant, Request}
-use Rattle.hc_world.specs.World.{World, Committed, backs, is_early_for}
+use Rattle.hc_world.specs.Protocol.{ProtocolState, Committed, backs, is_early_for}
 use Rattle.hc_world.specs.Kept.{Kept, IsFormed}
 use Rattle.hc_world.proofs.Majorities.{shared_member}
 use Rattle.hc_world.proofs.Shares.{share-sym, share-trans, share_less, term_same}
@@ -44,7 +44,7 @@ not_empty (e ∷ log) term index a h = omega arith
 pub below_last : (table : List Request) (log : List Entry) (i l : ℕ) → IsFormed table log → i < length log → length log ≡ suc l → term_at log (suc i) ≤ last_term log
 below_last table log i l formed h e = rw e (formed.rising i l (omega arith) (omega arith))
 
-module _ (w : World) (kept : Kept w) where
+module _ (w : ProtocolState) (kept : Kept w) where
   -- a term whose book has an entry was won
   pub won_by : (t : ℕ) → 0 < length (w.book t) → (c : ℕ) × (w.winner t ≡ Some c)
   won_by t h = by (w.winner t) refl

@@ -12,9 +12,11 @@ pub mod Majorities
 pub mod Parts
 pub mod Puts
 pub mod Replied
+pub mod RuleLists
 pub mod Shares
 pub mod Steps
 pub mod Stops
 pub mod Taking
+pub mod Unreported
 pub mod Votes
 pub mod Winners

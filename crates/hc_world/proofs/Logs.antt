@@ -3,11 +3,12 @@ use Rattle.std.proofs.Common.{◌≡◌, ◌≢◌, ℕ, zero, suc, ◌+◌, ◌
 use Rattle.std.proofs.lemmas.Bool.{true≢false}
 use Rattle.r2_base.specs.declared.rid.Rid.{Rid}
 use Rattle.r2_base.specs.declared.entry.Entry.{Entry}
-use Rattle.hc_world.specs.Log.{In, Share, blank_of, entry_at, is_request, term_at}
+use Rattle.r2_base.specs.Entry.{blank_entry, is_request}
+use Rattle.hc_world.specs.Log.{In, Share, entry_at, term_at}
 use Rattle.hc_world.specs.Message.{Request, Grant}
 use Rattle.hc_world.specs.Rules.{Rule, Rise, Stand, GrantVote, Win, OrderRequest, Take, AskBody, GiveBody, Hold, Crash, SendRequest, after, entry_of, grant_of, taken, with_grant}
 use Rattle.hc_world.specs.Conditions.{Allowed}
-use Rattle.hc_world.specs.World.{World, put}
+use Rattle.hc_world.specs.Protocol.{ProtocolState, put}
 use Rattle.hc_world.specs.Kept.{Kept}
 use Rattle.std.proofs.Common.{length-take, get_or-take}
 use Rattle.std.proofs.lemmas.Bool.Decides.{nat_tests}
@@ -57,7 +58,7 @@ within_take : (n k : ℕ) (log : List Entry) → k < length (take n log) → (k 
 within_take n k log h = let e = length-take n log in (omega (arith, e, h), omega (arith, e, h))
 
 entry_take : (n k : ℕ) (log : List Entry) → k < n → entry_at (take n log) (suc k) ≡ entry_at log (suc k)
-entry_take n k log h = get_or-take n log k (blank_of 0) h
+entry_take n k log h = get_or-take n log k (blank_entry 0) h
 
 term_take : (n k : ℕ) (log : List Entry) → k < n → term_at (take n log) (suc k) ≡ term_at log (suc k)
 term_take n k log h = ap (λ (x : Entry). x.term) (entry_take n k log h)
@@ -71,7 +72,7 @@ matches_take book n log h = λ k l.
     (share-trans (suc k) (take n log) log (book (term_at log (suc k))) (share_take (suc k) n log parts.0 parts.1) (h k parts.1))
 
 module _ (log base book : ℕ → List Entry) (granted : ℕ → ℕ → Option Grant) where
-  each_weaken : (P Q : List Entry → Type 0) → ((xs : List Entry) → P xs → Q xs) → EachLog P log base book granted → EachLog Q log base book granted
+  pub each_weaken : (P Q : List Entry → Type 0) → ((xs : List Entry) → P xs → Q xs) → EachLog P log base book granted → EachLog Q log base book granted
   each_weaken P Q f h =
       record { of_log = λ v. f (log v) (h.of_log v); of_base = λ t. f (base t) (h.of_base t); of_book = λ t. f (book t) (h.of_book t); of_grant = λ t v g e. f g.log (h.of_grant t v g e) }
 
@@ -91,24 +92,24 @@ module _ (log base book : ℕ → List Entry) (granted : ℕ → ℕ → Option 
       by s u g (inl e) = h.of_grant s u g e
       by s u g (inr e) = subst (λ (y : Grant). P y.log) (sym e.is) is
 
-module _ (w : World) (k : Kept w) where
+module _ (w : ProtocolState) (k : Kept w) where
   pub logs_match_books : (r : Rule) → Allowed w r → LogsMatchBooks (after w r)
   logs_match_books (Stand x) a = each_grant w.log w.base w.book w.granted (Matches w.book) (suc (w.term x)) x (grant_of w (suc (w.term x)) x x) (k.logs.logs_match_books.of_log x) k.logs.logs_match_books
   logs_match_books (GrantVote x q) a = each_grant w.log w.base w.book w.granted (Matches w.book) (w.term x) x (grant_of w (w.term x) x q.candidate) (k.logs.logs_match_books.of_log x) k.logs.logs_match_books
   logs_match_books (Win x) a =
-      each_log w.log (put w.base (w.term x) (w.log x)) books w.granted (Matches books) x (w.log x ++ blank_of (w.term x) ∷ []) new
+      each_log w.log (put w.base (w.term x) (w.log x)) books w.granted (Matches books) x (w.log x ++ blank_entry (w.term x) ∷ []) new
       (each_base w.log w.base books w.granted (Matches books) (w.term x) (w.log x) (grown.of_log x)
-      (each_book w.log w.base w.book w.granted (Matches books) (w.term x) (w.log x ++ blank_of (w.term x) ∷ []) new grown))
+      (each_book w.log w.base w.book w.granted (Matches books) (w.term x) (w.log x ++ blank_entry (w.term x) ∷ []) new grown))
     where
       books : ℕ → List Entry
-      books = put w.book (w.term x) (w.log x ++ blank_of (w.term x) ∷ [])
+      books = put w.book (w.term x) (w.log x ++ blank_entry (w.term x) ∷ [])
 
       grown : EachLog (Matches books) w.log w.base w.book w.granted
       grown = each_weaken w.log w.base w.book w.granted (Matches w.book) (Matches books) (matches_grown w.book books (grows w k (Win x) a).books) k.logs.logs_match_books
 
-      new : Matches books (w.log x ++ blank_of (w.term x) ∷ [])
-      new = matches_push books (w.log x) (blank_of (w.term x)) (grown.of_log x)
-          (subst (Share (suc (length (w.log x))) (w.log x ++ blank_of (w.term x) ∷ [])) (sym (put_same w.book (w.term x) (w.log x ++ blank_of (w.term x) ∷ []))) (share_self _ _ (omega (arith, length-append (w.log x) (blank_of (w.term x) ∷ [])))))
+      new : Matches books (w.log x ++ blank_entry (w.term x) ∷ [])
+      new = matches_push books (w.log x) (blank_entry (w.term x)) (grown.of_log x)
+          (subst (Share (suc (length (w.log x))) (w.log x ++ blank_entry (w.term x) ∷ [])) (sym (put_same w.book (w.term x) (w.log x ++ blank_entry (w.term x) ∷ []))) (share_self _ _ (omega (arith, length-append (w.log x) (blank_entry (w.term x) ∷ [])))))
   logs_match_books (OrderRequest x q p) a =
       each_log w.log w.base books w.granted (Matches books) x (w.log x ++ entry_of (w.term x) q p ∷ []) (subst (λ (xs : List Entry). Matches books (xs ++ entry_of (w.term x) q p ∷ [])) (sym mine) new)
       (each_book w.log w.base w.book w.granted (Matches books) (w.term x) (w.book (w.term x) ++ entry_of (w.term x) q p ∷ []) new grown)
@@ -207,17 +208,17 @@ formed_grown table more log h =
       listed = λ k l p. let old = h.listed k l p in record { request = old.request; sent = in_behind old.request table more old.sent; named = old.named; kind_is = old.kind_is };
     }
 
-module _ (w : World) (k : Kept w) where
+module _ (w : ProtocolState) (k : Kept w) where
   pub logs_are_formed : (r : Rule) → Allowed w r → LogsAreFormed (after w r)
   logs_are_formed (Stand x) a = each_grant w.log w.base w.book w.granted (IsFormed w.table) (suc (w.term x)) x (grant_of w (suc (w.term x)) x x) (k.logs.logs_are_formed.of_log x) k.logs.logs_are_formed
   logs_are_formed (GrantVote x q) a = each_grant w.log w.base w.book w.granted (IsFormed w.table) (w.term x) x (grant_of w (w.term x) x q.candidate) (k.logs.logs_are_formed.of_log x) k.logs.logs_are_formed
   logs_are_formed (Win x) a =
-      each_log w.log (put w.base (w.term x) (w.log x)) (put w.book (w.term x) (w.log x ++ blank_of (w.term x) ∷ [])) w.granted (IsFormed w.table) x (w.log x ++ blank_of (w.term x) ∷ []) new
-      (each_base w.log w.base (put w.book (w.term x) (w.log x ++ blank_of (w.term x) ∷ [])) w.granted (IsFormed w.table) (w.term x) (w.log x) (k.logs.logs_are_formed.of_log x)
-      (each_book w.log w.base w.book w.granted (IsFormed w.table) (w.term x) (w.log x ++ blank_of (w.term x) ∷ []) new k.logs.logs_are_formed))
+      each_log w.log (put w.base (w.term x) (w.log x)) (put w.book (w.term x) (w.log x ++ blank_entry (w.term x) ∷ [])) w.granted (IsFormed w.table) x (w.log x ++ blank_entry (w.term x) ∷ []) new
+      (each_base w.log w.base (put w.book (w.term x) (w.log x ++ blank_entry (w.term x) ∷ [])) w.granted (IsFormed w.table) (w.term x) (w.log x) (k.logs.logs_are_formed.of_log x)
+      (each_book w.log w.base w.book w.granted (IsFormed w.table) (w.term x) (w.log x ++ blank_entry (w.term x) ∷ []) new k.logs.logs_are_formed))
     where
-      new : IsFormed w.table (w.log x ++ blank_of (w.term x) ∷ [])
-      new = formed_push w.table (w.log x) (blank_of (w.term x)) (k.logs.logs_are_formed.of_log x) (λ j h. k.logs.entries_are_old x j h) (λ h. absurd (true≢false (sym h))) (λ h. absurd (true≢false (sym h)))
+      new : IsFormed w.table (w.log x ++ blank_entry (w.term x) ∷ [])
+      new = formed_push w.table (w.log x) (blank_entry (w.term x)) (k.logs.logs_are_formed.of_log x) (λ j h. k.logs.entries_are_old x j h) (λ h. absurd (true≢false (sym h))) (λ h. absurd (true≢false (sym h)))
   logs_are_formed (OrderRequest x q p) a =
       each_log w.log w.base (put w.book (w.term x) (w.book (w.term x) ++ entry_of (w.term x) q p ∷ [])) w.granted (IsFormed w.table) x (w.log x ++ entry_of (w.term x) q p ∷ []) new
       (each_book w.log w.base w.book w.granted (IsFormed w.table) (w.term x) (w.book (w.term x) ++ entry_of (w.term x) q p ∷ [])
@@ -253,7 +254,7 @@ module _ (w : World) (k : Kept w) where
   pub entries_are_old : (r : Rule) → Allowed w r → EntriesAreOld (after w r)
   entries_are_old (Rise x s) a = λ v j h. omega (arith, k.logs.entries_are_old v j h, (grows w k (Rise x s) a).terms v)
   entries_are_old (Stand x) a = λ v j h. omega (arith, k.logs.entries_are_old v j h, (grows w k (Stand x) a).terms v)
-  entries_are_old (Win x) a = split x (rw (self x) (old_push x (blank_of (w.term x)) refl)) (λ u e. rw e (k.logs.entries_are_old u))
+  entries_are_old (Win x) a = split x (rw (self x) (old_push x (blank_entry (w.term x)) refl)) (λ u e. rw e (k.logs.entries_are_old u))
   entries_are_old (OrderRequest x q p) a = split x (rw (self x) (old_push x (entry_of (w.term x) q p) refl)) (λ u e. rw e (k.logs.entries_are_old u))
   entries_are_old (Take x o i n) a =
       split
@@ -336,7 +337,7 @@ at_within [] i r h = absurd h
 at_within (x ∷ table) zero r h = omega arith
 at_within (x ∷ table) (suc i) r h = omega (arith, at_within table i r h)
 
-module _ (w : World) (k : Kept w) where
+module _ (w : ProtocolState) (k : Kept w) where
   pub table_is_distinct : (r : Rule) → Allowed w r → TableIsDistinct (after w r)
   table_is_distinct (SendRequest x) a = λ i j q r h g e. by i j q r e (at_push w.table x i q h) (at_push w.table x j r g)
     where

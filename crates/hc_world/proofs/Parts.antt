@@ -3,13 +3,13 @@ use Rattle.std.proofs.Common.{◌≡◌, ℕ, true, false, refl}
 use Rattle.std.proofs.lemmas.Bool.{true≢false}
 use Rattle.hc_world.specs.Rules.{Rule, Rise, Stand, AskVotes, GrantVote, SendVote, CountVote, Win, OrderRequest, SendOrder, Confirm, Take, Acknowledge, CommitByCount, CommitByOrder, CommitByAggregate, Aggregate, Apply, Answer, AnswerAgain, AskBody, GiveBody, Yield, NoteReport, NoteOwnReport, NoteAck, Hold, Refuse, RejectOrder, Follow, NoteOrder, Collect, Forget, Crash, Restart, SendRequest, after}
 use Rattle.hc_world.specs.Parts.{Part, Terms, VoteOfTerm, Logs, Up, Roles, Counted, Matched, Commits, Applied, Starts, Reached, Pools, TheAggregator, VoteRequests, Votes, Orders, Acks, Aggregates, Refusals, Nacks, Asked, Bodies, Table, Winners, Bases, Books, Grants, Reports, Passes, Replies, Same, Leaves, IsOther, is_named, changed_by, member_of}
-use Rattle.hc_world.specs.World.{World}
+use Rattle.hc_world.specs.Protocol.{ProtocolState}
 use Rattle.hc_world.proofs.Puts.{other}
 
 changed : {A : Type 0} → true ≡ false → A
 changed h = absurd (true≢false h)
 
-part_left : (w : World) (r : Rule) (p : Part) → is_named p (changed_by r) ≡ false → Same p w (after w r)
+part_left : (w : ProtocolState) (r : Rule) (p : Part) → is_named p (changed_by r) ≡ false → Same p w (after w r)
 part_left w (Rise v s) Terms h = changed h
 part_left w (Rise v s) VoteOfTerm h = changed h
 part_left w (Rise v s) Roles h = changed h
@@ -79,19 +79,19 @@ part_left w (SendRequest q) Table h = changed h
 part_left w r p h = refl
 
 -- a rule leaves all but the parts that it names
-pub leaves : (w : World) (r : Rule) → Leaves w r (after w r)
+pub leaves : (w : ProtocolState) (r : Rule) → Leaves w r (after w r)
 leaves w r = record { size = size_left w r; bound = bound_left w r; part = part_left w r }
   where
-    size_left : (w : World) (r : Rule) → (after w r).size ≡ w.size
+    size_left : (w : ProtocolState) (r : Rule) → (after w r).size ≡ w.size
     size_left w (Rise v s) = refl
     size_left w r = refl
 
-    bound_left : (w : World) (r : Rule) → (after w r).bound ≡ w.bound
+    bound_left : (w : ProtocolState) (r : Rule) → (after w r).bound ≡ w.bound
     bound_left w (Rise v s) = refl
     bound_left w r = refl
 
 -- a rule of one member spares the others
-pub spares : (w : World) (r : Rule) (u : ℕ) → IsOther u r → member_of (after w r) u ≡ member_of w u
+pub spares : (w : ProtocolState) (r : Rule) (u : ℕ) → IsOther u r → member_of (after w r) u ≡ member_of w u
 spares w (Rise v s) u h = rw (other u v h) refl
 spares w (Stand v) u h = rw (other u v h) refl
 spares w (GrantVote v q) u h = rw (other u v h) refl

@@ -4,7 +4,7 @@ use Rattle.std.specs.Option.{unwrap_or}
 use Rattle.std.proofs.lemmas.Bool.{eqb-true, eq-eqb, ne_eqb}
 use Rattle.hc_world.specs.Log.{In}
 use Rattle.hc_world.specs.Message.{Grant, Ack, Order}
-use Rattle.hc_world.specs.World.{acked, put, told}
+use Rattle.hc_world.specs.Protocol.{acked, put, told}
 use Rattle.hc_world.specs.Rules.{with_grant}
 
 -- a number is itself

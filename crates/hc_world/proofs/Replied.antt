@@ -1,15 +1,16 @@
 -- Replies: each is the one-thread service's, and in order.
-use Rattle.std.proofs.Common.{◌≡◌, ℕ, zero, suc, ◌<◌, ◌≤◌, ◌⊎◌, inl, inr, Bool, true, false, ◌==◌, ◌&&◌, if◌then◌else◌, List, [], ◌∷◌, ◌++◌, length, take, get_or, Option, Some, refl, sym, ap, subst, ◌∙◌, arith, length-append}
+use Rattle.std.proofs.Common.{◌≡◌, ℕ, zero, suc, ◌<◌, ◌≤◌, ◌⊎◌, inl, inr, Bool, true, false, if◌then◌else◌, List, [], ◌∷◌, ◌++◌, length, take, get_or, Option, Some, refl, sym, ap, subst, ◌∙◌, arith, length-append}
 use Rattle.std.proofs.lemmas.Option.{none-some}
 use Rattle.r2_base.specs.declared.rid.Rid.{Rid}
 use Rattle.r2_base.specs.declared.entry.Entry.{Entry}
-use Rattle.hc_world.specs.Log.{In, Share, blank_of, entry_at, is_request}
+use Rattle.r2_base.specs.Entry.{blank_entry, is_request}
+use Rattle.r2_base.specs.Names.{same_rid}
+use Rattle.hc_world.specs.Log.{In, Share, entry_at}
 use Rattle.hc_world.specs.Message.{Ack, Request, Reply}
 use Rattle.hc_world.specs.Rules.{Rule, Win, OrderRequest, Acknowledge, Answer, AnswerAgain, SendRequest, after}
 use Rattle.hc_world.specs.Conditions.{Allowed}
-use Rattle.hc_world.specs.World.{World, Committed, IsCommittedIn}
+use Rattle.hc_world.specs.Protocol.{ProtocolState, Committed, IsCommittedIn}
 use Rattle.hc_world.specs.Kept.{Kept}
-use Rattle.std.proofs.lemmas.Bool.{and_from}
 use Rattle.std.proofs.Common.{map, ap₂, slice_get, option_and_then}
 use Rattle.std.specs.FinMap as finite
 use Rattle.std.proofs.lemmas.List.{length-map, take-map, get_or-map}
@@ -19,19 +20,24 @@ use Rattle.r2_base.specs.declared.entry.Kind.TheVariants.{Blank, Write, Read}
 use Rattle.hc_service.specs.Replies.{Operation, after_all, entry_reply, reply_at}
 use Rattle.hc_world.specs.Conditions.{MayAnswer}
 use Rattle.hc_world.specs.Kept.{IsFormed}
-use Rattle.hc_world.specs.Log.{same_rid}
 use Rattle.hc_world.specs.Replies.{IsRight, RepliesAreRight, PlacesAreWithin, LaterRequestsStandBehind}
-use Rattle.hc_world.specs.Requests.{At, IsKnown, IsListed, body_of, operation_of, operations}
+use Rattle.hc_world.specs.Requests.{At, IsKnown, IsListed, body_of, entry_body, operations}
+use Rattle.hc_service.specs.Operations.{operation_by}
 use Rattle.hc_world.specs.Rules.{reply_of}
+use Rattle.r2_base.proofs.SameNames.{same_rid-same}
 use Rattle.hc_world.proofs.Agreement.{fronts_agree}
 use Rattle.hc_world.proofs.Commits.{committed_grows, entry_shared}
 use Rattle.hc_world.proofs.Grows.{grows}
 use Rattle.hc_world.proofs.LaterLeaders.{cases_le}
 use Rattle.hc_world.proofs.Logs.{at_push, at_within}
 use Rattle.hc_world.proofs.Parts.{leaves}
-use Rattle.hc_world.proofs.Puts.{in_more, self}
+use Rattle.hc_world.proofs.Puts.{in_more}
 use Rattle.hc_world.proofs.Shares.{share_get, share_less}
 use Rattle.hc_world.proofs.Steps.{steps_keep}
+
+-- an entry as the service sees it
+abbrev operation_of : List Request → Entry → Operation
+operation_of table = operation_by (λ (e : Entry). e.kind) (entry_body table)
 
 -- a reply goes by the operations up to its index
 pub reply_front : (n : ℕ) (xs ys : List Operation) → Share n xs ys → (index : ℕ) → index ≤ n → reply_at xs index ≡ reply_at ys index
@@ -78,28 +84,21 @@ reply_asks table log (suc before) payload e = by (cases_le (length log) before)
         let past = slice_get_past (operations table log) before (omega (arith, h, length-map log (operation_of table))) in
         absurd (none-some payload (sym (ap (λ (x : Option Operation). option_and_then (λ (o : Operation). entry_reply (after_all finite.empty (take before (operations table log))) (suc before) o.kind o.body) x) past) ∙ e))
     by (inr h) =
-        let here = slice_get-get_or (operations table log) before (operation_of table (blank_of 0)) (omega (arith, h, length-map log (operation_of table))) in
-        let mapped = get_or-map (operation_of table) log before (blank_of 0) (operation_of table (blank_of 0)) h in
-        let there : slice_get (operations table log) before ≡ Some (operation_of table (get_or log before (blank_of 0))) = here ∙ ap Some mapped in
+        let here = slice_get-get_or (operations table log) before (operation_of table (blank_entry 0)) (omega (arith, h, length-map log (operation_of table))) in
+        let mapped = get_or-map (operation_of table) log before (blank_entry 0) (operation_of table (blank_entry 0)) h in
+        let there : slice_get (operations table log) before ≡ Some (operation_of table (get_or log before (blank_entry 0))) = here ∙ ap Some mapped in
         let found = sym (ap (λ (x : Option Operation). option_and_then (λ (o : Operation). entry_reply (after_all finite.empty (take before (operations table log))) (suc before) o.kind o.body) x) there) ∙ e in
         record {
           first = omega arith;
           within = h;
-          asks = asks_by (after_all finite.empty (take before (operations table log))) (suc before) (get_or log before (blank_of 0)).kind (operation_of table (get_or log before (blank_of 0))).body payload found;
+          asks = asks_by (after_all finite.empty (take before (operations table log))) (suc before) (get_or log before (blank_entry 0)).kind (operation_of table (get_or log before (blank_entry 0))).body payload found;
         }
-
-same_rid-self : (a b : Rid) → a ≡ b → same_rid b a ≡ true
-same_rid-self a b e =
-    subst (λ (c : Rid). same_rid c a ≡ true) e
-    (and_from ((a.id == a.id) && (a.client.ip == a.client.ip)) (a.client.port == a.client.port)
-    (and_from (a.id == a.id) (a.client.ip == a.client.ip) (self a.id) (self a.client.ip))
-    (self a.client.port))
 
 -- a body that is known stays
 body_in : (table : List Request) (q r : Request) (rid : Rid) → In r table → r.rid ≡ rid → body_of (table ++ q ∷ []) rid ≡ body_of table rid
 body_in [] q r rid h e = absurd h
 body_in (x ∷ table) q r rid (inl f) e =
-    let test = same_rid-self x.rid rid (sym (ap (λ (y : Request). y.rid) f) ∙ e) in
+    let test : same_rid rid x.rid ≡ true = subst (λ (c : Rid). same_rid c x.rid ≡ true) (sym (ap (λ (y : Request). y.rid) f) ∙ e) (same_rid-same x.rid) in
     rw test refl
 body_in (x ∷ table) q r rid (inr h) e = by (same_rid rid x.rid) (body_in table q r rid h e)
   where
@@ -128,7 +127,7 @@ right_again : (members : ℕ) (winner : ℕ → Option ℕ) (book : ℕ → List
 right_again members winner book acks table r place h =
     record { term = h.term; end = h.end; committed = h.committed; first = h.first; low = h.low; asks = h.asks; named = h.named; right = h.right }
 
-module _ (w : World) (k : Kept w) where
+module _ (w : ProtocolState) (k : Kept w) where
   right_grows : (r : Rule) → Allowed w r → (x : Reply) → IsRight w.size w.winner w.book w.acks w.table x → IsRight w.size (after w r).winner (after w r).book (after w r).acks w.table x
   right_grows r a x h =
       let grown = (grows w k r a).books h.term in

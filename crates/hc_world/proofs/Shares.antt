@@ -2,7 +2,8 @@
 use Rattle.std.proofs.Common.{◌≡◌, ℕ, suc, ◌<◌, ◌≤◌, List, [], ◌∷◌, ◌++◌, length, take, get_or, refl, sym, ap, ◌∙◌, arith, length-append, length-take, get_or-take, take-take}
 use Rattle.std.proofs.lemmas.List.{take-append-le}
 use Rattle.r2_base.specs.declared.entry.Entry.{Entry}
-use Rattle.hc_world.specs.Log.{Share, blank_of, entry_at, term_at}
+use Rattle.r2_base.specs.Entry.{blank_entry}
+use Rattle.hc_world.specs.Log.{Share, entry_at, term_at}
 
 module _ {A : Type 0} where
   pub share_none : (xs ys : List A) → Share 0 xs ys
@@ -55,7 +56,7 @@ module _ {A : Type 0} where
       take-length (z ∷ zs) = ap (z ∷◌) (take-length zs)
 
 pub entry_same : (n k : ℕ) (xs ys : List Entry) → k < n → Share n xs ys → entry_at xs (suc k) ≡ entry_at ys (suc k)
-entry_same n k xs ys h s = share_get n k (blank_of 0) xs ys h s
+entry_same n k xs ys h s = share_get n k (blank_entry 0) xs ys h s
 
 pub term_same : (n k : ℕ) (xs ys : List Entry) → k < n → Share n xs ys → term_at xs (suc k) ≡ term_at ys (suc k)
 term_same n k xs ys h s = ap (λ (e : Entry). e.term) (entry_same n k xs ys h s)

@@ -1,10 +1,10 @@
--- The beginning has every fact, each step keeps it, and so does every run.
-use Rattle.std.proofs.Common.{ℕ, zero, suc, ◌<◌, ◌≤◌, ◌⊎◌, inl, inr, List, [], ◌∷◌, refl, arith}
+-- The beginning has every fact, and each step keeps it.
+use Rattle.std.proofs.Common.{ℕ, zero, suc, ◌<◌, ◌≤◌, ◌⊎◌, inl, inr, [], refl, arith}
 use Rattle.r2_base.specs.declared.entry.Entry.{Entry}
 use Rattle.hc_world.specs.Log.{Share}
 use Rattle.hc_world.specs.Rules.{Rule, after}
 use Rattle.hc_world.specs.Conditions.{Allowed}
-use Rattle.hc_world.specs.World.{World}
+use Rattle.hc_world.specs.Protocol.{ProtocolState}
 use Rattle.hc_world.specs.Kept.{Kept}
 use Rattle.hc_world.proofs.Acks.{acks_are_below, acknowledged_is_kept, acknowledged_is_the_leaders, granted_is_kept, matched_is_the_leaders, orders_are_slices}
 use Rattle.hc_world.proofs.Candidates.{vote_requests_tell_logs, voters_are_behind}
@@ -14,8 +14,7 @@ use Rattle.hc_world.proofs.Stops.{stopped_members_forgot}
 use Rattle.hc_world.proofs.Votes.{candidates_have_not_won, candidates_have_terms, candidates_voted_for_themselves, counted_votes_are_grants, grants_are_old, late_grants_are_of_won_terms, sent_votes_are_grants, votes_are_grants}
 use Rattle.hc_world.proofs.Winners.{books_are_of_their_terms, leaders_have_won, unwon_terms_have_nothing, winners_are_members, winners_are_not_behind, winners_had_majorities, winners_have_their_books, winners_voted_for_themselves, won_terms_are_positive}
 use Rattle.hc_world.specs.Kept.{IsFormed}
-use Rattle.hc_world.specs.Runs.{AllAllowed, IsRun, run}
-use Rattle.hc_world.specs.World.{new_world}
+use Rattle.hc_world.specs.Protocol.{beginning}
 use Rattle.hc_world.proofs.Shares.{share_none}
 
 none : {A : Type 0} (n : ℕ) → n < 0 → A
@@ -24,8 +23,8 @@ none n h = absurd (omega (arith, h))
 empty_formed : IsFormed [] []
 empty_formed = record { rising = λ i k l h. none k h; distinct = λ i k l h. none k h; listed = λ k h. none k h }
 
-pub begins : (members most : ℕ) → Kept (new_world members most)
-begins members most =
+pub begins : (members : ℕ) (bounds : ℕ → ℕ) → Kept (beginning members bounds)
+begins members bounds =
     record {
       votes = record {
         grants_are_old = λ t v g e. cc;
@@ -92,7 +91,7 @@ begins members most =
     known (inr (inl h)) = absurd h
     known (inr (inr h)) = absurd h
 
-pub steps_keep : (w : World) (r : Rule) → Kept w → Allowed w r → Kept (after w r)
+pub steps_keep : (w : ProtocolState) (r : Rule) → Kept w → Allowed w r → Kept (after w r)
 steps_keep w r k a =
     record {
       votes = record {
@@ -150,10 +149,3 @@ steps_keep w r k a =
       };
       stopped_members_forgot = stopped_members_forgot w k r a;
     }
-
-pub rules_keep : (w : World) (rules : List Rule) → Kept w → AllAllowed w rules → Kept (run w rules)
-rules_keep w [] k a = k
-rules_keep w (r ∷ more) k a = rules_keep (after w r) more (steps_keep w r k a.0) a.1
-
-pub runs_keep : (members most : ℕ) (rules : List Rule) → IsRun members most rules → Kept (run (new_world members most) rules)
-runs_keep members most rules r = rules_keep (new_world members most) rules (begins members most) r.allowed

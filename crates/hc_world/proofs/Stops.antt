@@ -3,11 +3,11 @@ use Rattle.std.proofs.Common.{◌≡◌, ℕ, false, refl, sym, ◌∙◌}
 use Rattle.std.proofs.lemmas.Bool.{true≢false}
 use Rattle.hc_world.specs.Rules.{Rule, Rise, Stand, GrantVote, CountVote, Win, OrderRequest, Confirm, Take, CommitByCount, CommitByOrder, CommitByAggregate, Apply, Yield, NoteAck, Hold, Crash, Restart, after}
 use Rattle.hc_world.specs.Conditions.{Allowed, CanAct}
-use Rattle.hc_world.specs.World.{World}
+use Rattle.hc_world.specs.Protocol.{ProtocolState}
 use Rattle.hc_world.specs.Kept.{Kept, StoppedMembersForgot}
 use Rattle.hc_world.proofs.Puts.{split, self}
 
-module _ (w : World) (k : Kept w) where
+module _ (w : ProtocolState) (k : Kept w) where
   -- a member that makes a step isn't down
   acting : {A : Type 0} (x : ℕ) → CanAct w x → w.up x ≡ false → A
   acting x a e = absurd (true≢false (sym a.runs ∙ e))

@@ -1,11 +1,12 @@
 -- Taking: the log behind an Order's entries is the front of its term's book, and keeps what both had.
 use Rattle.std.proofs.Common.{◌≡◌, ◌≢◌, ℕ, zero, suc, ◌+◌, ◌-◌, ◌<◌, ◌≤◌, ◌⊎◌, inl, inr, List, ◌++◌, length, take, drop, get_or, Option, refl, sym, ap, subst, ◌∙◌, arith}
 use Rattle.r2_base.specs.declared.entry.Entry.{Entry}
-use Rattle.hc_world.specs.Log.{In, Share, blank_of, entry_at, term_at}
+use Rattle.r2_base.specs.Entry.{blank_entry}
+use Rattle.hc_world.specs.Log.{In, Share, entry_at, term_at}
 use Rattle.hc_world.specs.Message.{Order}
 use Rattle.hc_world.specs.Rules.{taken}
 use Rattle.hc_world.specs.Conditions.{MayTake}
-use Rattle.hc_world.specs.World.{World}
+use Rattle.hc_world.specs.Protocol.{ProtocolState}
 use Rattle.hc_world.specs.Kept.{Kept}
 use Rattle.std.proofs.Common.{take-take, take-add, drop-drop, get_or-take, get_or-drop, take_all, length-take-le}
 use Rattle.std.proofs.lemmas.List.{drop-take}
@@ -18,8 +19,8 @@ module _ (winner : Option ℕ) (base book : List Entry) (o : Order) (slice : IsS
   -- an Order's entry is the book's
   pub entry_of_slice : (j : ℕ) → j < length o.entries → entry_at o.entries (suc j) ≡ entry_at book (suc (o.previous + j))
   entry_of_slice j h =
-      ap (λ (xs : List Entry). get_or xs j (blank_of 0)) (sym slice.entries_are)
-      ∙ (get_or-take (length o.entries) (drop o.previous book) j (blank_of 0) h ∙ get_or-drop o.previous book j (blank_of 0))
+      ap (λ (xs : List Entry). get_or xs j (blank_entry 0)) (sym slice.entries_are)
+      ∙ (get_or-take (length o.entries) (drop o.previous book) j (blank_entry 0) h ∙ get_or-drop o.previous book j (blank_entry 0))
 
   -- the entries from i to k, behind what stands in front of them in the book, are the book's front
   pub front_of_slice : (i k : ℕ) → i ≤ k → k ≤ length o.entries → take (o.previous + i) book ++ drop i (take k o.entries) ≡ take (o.previous + k) book
@@ -85,13 +86,13 @@ module _ (books : ℕ → List Entry) (log book : List Entry) (of_log : Matches 
                 absurd (c.1 (one ∙ (sym two ∙ sym three)))
 
 -- a member that takes an Order: its new log is a front of its term's book, and keeps what both had
-pub record Taking (w : World) (v : ℕ) (o : Order) (i k : ℕ) : Type 0 where
+pub record Taking (w : ProtocolState) (v : ℕ) (o : Order) (i k : ℕ) : Type 0 where
   pub is : taken (w.log v) o i k ≡ take (o.previous + k) (w.book (w.term v))
   pub within : o.previous + k ≤ length (w.book (w.term v))
   pub old : Share (o.previous + i) (w.log v) (w.book (w.term v))
   pub keeps : (m : ℕ) (xs : List Entry) → Share m (w.log v) xs → Share m (w.book (w.term v)) xs → Share m (taken (w.log v) o i k) xs
 
-module _ (w : World) (k : Kept w) where
+module _ (w : ProtocolState) (k : Kept w) where
   -- an Order of a member's term is a slice of the term's book
   pub slice_of : (v : ℕ) (o : Order) → In o w.orders → o.term ≡ w.term v → IsSlice (w.winner (w.term v)) (w.base (w.term v)) (w.book (w.term v)) o
   slice_of v o h e = subst (λ (t : ℕ). IsSlice (w.winner t) (w.base t) (w.book t) o) e (k.logs.orders_are_slices o h)

@@ -6,7 +6,7 @@ use Rattle.r2_base.specs.declared.entry.Entry.{Entry}
 use Rattle.hc_world.specs.Message.{Grant}
 use Rattle.hc_world.specs.Rules.{Rule, Rise, Stand, GrantVote, SendVote, CountVote, Win, OrderRequest, Confirm, Take, Yield, Crash, after, grant_of, vote_of, with_grant}
 use Rattle.hc_world.specs.Conditions.{Allowed}
-use Rattle.hc_world.specs.World.{World, Candidate, put, voted}
+use Rattle.hc_world.specs.Protocol.{ProtocolState, Candidate, put, voted}
 use Rattle.hc_world.specs.Kept.{Kept}
 use Rattle.std.specs.Prelude.{option_map}
 use Rattle.std.specs.Option.{unwrap_or}
@@ -78,7 +78,7 @@ voted_then None new c f e = ap Some (sym e)
 voted_then (Some g) new c (inl f) e = absurd (none-some g.candidate (sym f))
 voted_then (Some g) new c (inr f) e = sym f
 
-module _ (w : World) (k : Kept w) where
+module _ (w : ProtocolState) (k : Kept w) where
   -- nobody voted at a term above its own
   pub no_grant : (s v : ℕ) → w.term v < s → w.granted s v ≡ None
   no_grant s v h = by (w.granted s v) refl
@@ -187,7 +187,7 @@ module _ (w : World) (k : Kept w) where
 pub voted_for_itself_grows : (granted x : ℕ → ℕ → Option Grant) → ((t v : ℕ) (g : Grant) → granted t v ≡ Some g → x t v ≡ Some g) → (t v : ℕ) (log : List Entry) → VotedForItself granted t v log → VotedForItself x t v log
 voted_for_itself_grows granted x grow t v log h = record { grant = h.grant; given = grow t v h.grant h.given; own = h.own; same = h.same }
 
-module _ (w : World) (k : Kept w) where
+module _ (w : ProtocolState) (k : Kept w) where
   pub candidates_voted_for_themselves : (r : Rule) → Allowed w r → CandidatesVotedForThemselves (after w r)
   candidates_voted_for_themselves (Rise x s) a = split x (rw (self x) (λ h. cc)) (λ u e. rw e (k.votes.candidates_voted_for_themselves u))
   candidates_voted_for_themselves (Stand x) a = split x own (λ u e. rw e (λ h. others u (k.votes.candidates_voted_for_themselves u h)))

@@ -3,12 +3,13 @@ use Rattle.std.proofs.Common.{◌≡◌, ℕ, suc, ◌<◌, ◌≤◌, ◌⊎◌
 use Rattle.std.proofs.lemmas.Bool.{true≢false}
 use Rattle.std.proofs.lemmas.Option.{same_Some, none-some}
 use Rattle.r2_base.specs.declared.entry.Entry.{Entry}
-use Rattle.hc_world.specs.Log.{Share, blank_of, entry_at, term_at}
+use Rattle.r2_base.specs.Entry.{blank_entry}
+use Rattle.hc_world.specs.Log.{Share, entry_at, term_at}
 use Rattle.hc_world.specs.Majority.{IsMajority}
 use Rattle.hc_world.specs.Message.{Grant}
 use Rattle.hc_world.specs.Rules.{Rule, Rise, Stand, GrantVote, Win, OrderRequest, Confirm, Take, Yield, Crash, after, entry_of, taken}
 use Rattle.hc_world.specs.Conditions.{Allowed, MayWin}
-use Rattle.hc_world.specs.World.{World, Leader, is_early_for, put, voted}
+use Rattle.hc_world.specs.Protocol.{ProtocolState, Leader, is_early_for, put, voted}
 use Rattle.hc_world.specs.Kept.{Kept}
 use Rattle.hc_world.specs.Kept.{WinnersAreMembers, WonTermsArePositive, WinnersAreNotBehind, WinnersVotedForThemselves, WinnersHadMajorities, WinnersHaveTheirBooks, LeadersHaveWon, UnwonTermsHaveNothing, BooksAreOfTheirTerms, VotedForItself, LedBy, IsBookOf}
 use Rattle.std.proofs.lemmas.Bool.Decides.{nat_tests}
@@ -39,16 +40,16 @@ pub entry_front : (log : List Entry) (e : Entry) (k : ℕ) → k < length log �
 entry_front log e k h = sym (entry_same (length log) k log (log ++ e ∷ []) h (share_behind (length log) log log (e ∷ []) (share_self (length log) log (omega arith))))
 
 -- a base with its blank entry is a book
-pub book_begins : (t : ℕ) (base : List Entry) → ((k : ℕ) → k < length base → term_at base (suc k) < t) → IsBookOf t base (base ++ blank_of t ∷ [])
+pub book_begins : (t : ℕ) (base : List Entry) → ((k : ℕ) → k < length base → term_at base (suc k) < t) → IsBookOf t base (base ++ blank_entry t ∷ [])
 book_begins t base older =
     record {
       older = older;
-      begins = share_behind (length base) base base (blank_of t ∷ []) (share_self (length base) base (omega arith));
-      longer = omega (arith, length-append base (blank_of t ∷ []));
-      blank = entry_last base (blank_of t);
+      begins = share_behind (length base) base base (blank_entry t ∷ []) (share_self (length base) base (omega arith));
+      longer = omega (arith, length-append base (blank_entry t ∷ []));
+      blank = entry_last base (blank_entry t);
       own = λ k h l.
-          let last : length base ≡ k = omega (arith, h, l, length-append base (blank_of t ∷ [])) in
-          subst (λ (n : ℕ). term_at (base ++ blank_of t ∷ []) (suc n) ≡ t) last (ap (λ (e : Entry). e.term) (entry_last base (blank_of t)));
+          let last : length base ≡ k = omega (arith, h, l, length-append base (blank_entry t ∷ [])) in
+          subst (λ (n : ℕ). term_at (base ++ blank_entry t ∷ []) (suc n) ≡ t) last (ap (λ (e : Entry). e.term) (entry_last base (blank_entry t)));
     }
 
 -- and so it is with one more entry of its term
@@ -66,7 +67,7 @@ book_goes_on t base book e is h =
     by k low (inl f) high = subst (λ (n : ℕ). term_at (book ++ e ∷ []) (suc n) ≡ t) (sym f) (ap (λ (x : Entry). x.term) (entry_last book e) ∙ is)
     by k low (inr f) high = let below : k < length book = grind (arith, nat_tests, f, high) in ap (λ (x : Entry). x.term) (entry_front book e k below) ∙ h.own k low below
 
-module _ (w : World) (k : Kept w) where
+module _ (w : ProtocolState) (k : Kept w) where
   pub winners_are_members : (r : Rule) → Allowed w r → WinnersAreMembers (after w r)
   winners_are_members (Win x) a =
       split (w.term x) (λ c h. subst (λ (u : ℕ). u < w.size) (same_Some x c (sym (put_same w.winner (w.term x) (Some x)) ∙ h)) a.competes.acts.member) (λ t e. rw e (k.winners.winners_are_members t))
@@ -138,9 +139,9 @@ module _ (w : World) (k : Kept w) where
       (w.term x)
       (λ c h e.
       subst
-      (λ (u : ℕ). put w.log x (w.log x ++ blank_of (w.term x) ∷ []) u ≡ put w.book (w.term x) (w.log x ++ blank_of (w.term x) ∷ []) (w.term x))
+      (λ (u : ℕ). put w.log x (w.log x ++ blank_entry (w.term x) ∷ []) u ≡ put w.book (w.term x) (w.log x ++ blank_entry (w.term x) ∷ []) (w.term x))
       (same_Some x c (sym (put_same w.winner (w.term x) (Some x)) ∙ h))
-      (put_same w.log x (w.log x ++ blank_of (w.term x) ∷ []) ∙ sym (put_same w.book (w.term x) (w.log x ++ blank_of (w.term x) ∷ []))))
+      (put_same w.log x (w.log x ++ blank_entry (w.term x) ∷ []) ∙ sym (put_same w.book (w.term x) (w.log x ++ blank_entry (w.term x) ∷ []))))
       (λ t f. rw f (split x (λ h e. absurd (apart (w.term x) t f e)) (λ u g. rw g (k.winners.winners_have_their_books t u))))
     where
       apart : (s t : ℕ) → (t == s) ≡ false → s ≡ t → ⊥

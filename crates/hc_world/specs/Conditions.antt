@@ -2,49 +2,50 @@
 use Rattle.std.specs.Prelude.{◌≡◌, ◌≢◌, ◌⊎◌, ℕ, suc, ◌+◌, ◌<◌, ◌≤◌, true, false, ◌==◌, ◌||◌, nat_le, List, length, Some, None}
 use Rattle.r2_base.specs.declared.rid.Rid.{Rid}
 use Rattle.r2_base.specs.declared.entry.Entry.{Entry}
+use Rattle.r2_base.specs.Entry.{is_request}
 use Rattle.hc_service.specs.Replies.{reply_at}
-use Rattle.hc_world.specs.Log.{In, HaveTerms, IsNotAhead, Lacks, StandsIn, entry_at, is_request, last_term, term_at}
+use Rattle.hc_world.specs.Log.{In, HaveTerms, IsNotAhead, Lacks, StandsIn, entry_at, last_term, term_at}
 use Rattle.hc_world.specs.Majority.{IsMajority}
 use Rattle.hc_world.specs.Message.{VoteRequest, Order, Ack, AggregateCommit, Request, Reply}
 use Rattle.hc_world.specs.Requests.{IsKnown, operations}
 use Rattle.hc_world.specs.Rules.{Rule, Rise, Stand, AskVotes, GrantVote, SendVote, CountVote, Win, OrderRequest, SendOrder, Confirm, Take, Acknowledge, CommitByCount, CommitByOrder, CommitByAggregate, Aggregate, Apply, Answer, AnswerAgain, AskBody, GiveBody, Yield, NoteReport, NoteOwnReport, NoteAck, Hold, Refuse, RejectOrder, Follow, NoteOrder, Collect, Forget, Crash, Restart, SendRequest, vote_of}
-use Rattle.hc_world.specs.World.{World, Follower, Candidate, Leader, acked, told, unreported}
+use Rattle.hc_world.specs.Protocol.{ProtocolState, Follower, Candidate, Leader, acked, told, unreported}
 
 -- a member of the group that is up
-pub record CanAct (w : World) (v : ℕ) : Type 0 where
+pub record CanAct (w : ProtocolState) (v : ℕ) : Type 0 where
   pub member : v < w.size
   pub runs : w.up v ≡ true
 
 -- a member that is up and leads
-pub record Leads (w : World) (v : ℕ) : Type 0 where
+pub record Leads (w : ProtocolState) (v : ℕ) : Type 0 where
   pub acts : CanAct w v
   pub leads : w.role v ≡ Leader
 
 -- a member that is up and stands for election
-pub record Competes (w : World) (v : ℕ) : Type 0 where
+pub record Competes (w : ProtocolState) (v : ℕ) : Type 0 where
   pub acts : CanAct w v
   pub competes : w.role v ≡ Candidate
 
 -- a member that is up and doesn't lead, where an Order of its term was sent
-pub record Hears (w : World) (v : ℕ) (o : Order) : Type 0 where
+pub record Hears (w : ProtocolState) (v : ℕ) (o : Order) : Type 0 where
   pub acts : CanAct w v
   pub follows : w.role v ≢ Leader
   pub sent : In o w.orders
   pub current : o.term ≡ w.term v
 
 -- a member rises to a term above its own (Raft, section 5.1)
-pub record MayRise (w : World) (v s : ℕ) : Type 0 where
+pub record MayRise (w : ProtocolState) (v s : ℕ) : Type 0 where
   pub acts : CanAct w v
   pub higher : w.term v < s
 
 -- a member that doesn't lead may stand; how long it waits before is left open (Raft, section 5.2)
-pub record MayStand (w : World) (v : ℕ) : Type 0 where
+pub record MayStand (w : ProtocolState) (v : ℕ) : Type 0 where
   pub acts : CanAct w v
   pub follows : w.role v ≢ Leader
 
 -- a follower votes for a candidate of its term that asked, where its vote is free or that candidate's already, and its own
 -- log isn't ahead (Raft, sections 5.2 and 5.4.1)
-pub record MayGrant (w : World) (v : ℕ) (q : VoteRequest) : Type 0 where
+pub record MayGrant (w : ProtocolState) (v : ℕ) (q : VoteRequest) : Type 0 where
   pub acts : CanAct w v
   pub follows : w.role v ≡ Follower
   pub sent : In q w.vote_requests
@@ -53,32 +54,32 @@ pub record MayGrant (w : World) (v : ℕ) (q : VoteRequest) : Type 0 where
   pub recent : IsNotAhead (last_term (w.log v)) (length (w.log v)) q.last_term q.last_index
 
 -- a member tells its vote to whom it gave it (Raft, section 5.2)
-pub record MaySendVote (w : World) (v c : ℕ) : Type 0 where
+pub record MaySendVote (w : ProtocolState) (v c : ℕ) : Type 0 where
   pub acts : CanAct w v
   pub voted : w.vote v ≡ Some c
 
 -- a candidate counts a vote of its term that was sent to it (Raft, section 5.2)
-pub record MayCount (w : World) (v c : ℕ) : Type 0 where
+pub record MayCount (w : ProtocolState) (v c : ℕ) : Type 0 where
   pub competes : Competes w v
   pub sent : In (vote_of (w.term v) c v) w.votes
 
 -- a candidate that counted a majority wins (Raft, section 5.2)
-pub record MayWin (w : World) (v : ℕ) : Type 0 where
+pub record MayWin (w : ProtocolState) (v : ℕ) : Type 0 where
   pub competes : Competes w v
   pub majority : IsMajority w.size (w.counted v)
 
--- a leader orders a request of the table that it holds and its log lacks, for a member with less than the bound unreported
+-- a leader orders a request of the table that it holds and its log lacks, for a member with fewer unreported than its bound
 -- (Raft, section 5.3; HovercRaft, on bounded queues)
-pub record MayOrder (w : World) (v : ℕ) (q : Request) (p : ℕ) : Type 0 where
+pub record MayOrder (w : ProtocolState) (v : ℕ) (q : Request) (p : ℕ) : Type 0 where
   pub leads : Leads w v
   pub known : In q w.table
   pub held : In q.rid (w.pool v)
   pub fresh : Lacks q.rid (w.log v)
   pub member : p < w.size
-  pub room : unreported w v p < w.bound
+  pub room : length (unreported w v p) < w.bound p
 
 -- a leader sends any slice of its log (Raft, section 5.3)
-pub record MaySendOrder (w : World) (v previous count : ℕ) : Type 0 where
+pub record MaySendOrder (w : ProtocolState) (v previous count : ℕ) : Type 0 where
   pub leads : Leads w v
   pub within : previous + count ≤ length (w.log v)
 
@@ -90,13 +91,13 @@ pub record Fits (log : List Entry) (o : Order) (k : ℕ) : Type 0 where
   pub entries : HaveTerms k o.previous log o.entries
 
 -- a member finds the first k entries of an Order in its log (Raft, section 5.3)
-pub record MayConfirm (w : World) (v : ℕ) (o : Order) (k : ℕ) : Type 0 where
+pub record MayConfirm (w : ProtocolState) (v : ℕ) (o : Order) (k : ℕ) : Type 0 where
   pub hears : Hears w v o
   pub fits : Fits (w.log v) o k
 
 -- the log has an entry of another term, or none, where the Order has its entry i + 1 (Raft, section 5.3); what it has from
 -- there on is neither committed, so far as the member knows, nor known to be the leader's
-pub record Conflicts (w : World) (v : ℕ) (o : Order) (i : ℕ) : Type 0 where
+pub record Conflicts (w : ProtocolState) (v : ℕ) (o : Order) (i : ℕ) : Type 0 where
   pub told : i < length o.entries
   pub differs : term_at (w.log v) (suc (o.previous + i)) ≢ term_at o.entries (suc i)
   pub committed : w.commit v ≤ o.previous + i
@@ -113,7 +114,7 @@ AreHeld pool log entries i k =
 
 -- a member takes entries of an Order whose bodies it holds: its log ends behind the first i, or is cut there at a conflict
 -- (Raft, section 5.3; HovercRaft, on separating replication from order)
-pub record MayTake (w : World) (v : ℕ) (o : Order) (i k : ℕ) : Type 0 where
+pub record MayTake (w : ProtocolState) (v : ℕ) (o : Order) (i k : ℕ) : Type 0 where
   pub hears : Hears w v o
   pub fits : Fits (w.log v) o i
   pub order : i ≤ k
@@ -122,20 +123,20 @@ pub record MayTake (w : World) (v : ℕ) (o : Order) (i k : ℕ) : Type 0 where
   pub bodies : AreHeld (w.pool v) (w.log v) o.entries i k
 
 -- a member acknowledges no more than it matched; a leader needs no acknowledgement of its own (Raft, section 5.3)
-pub record MayAcknowledge (w : World) (v m : ℕ) : Type 0 where
+pub record MayAcknowledge (w : ProtocolState) (v m : ℕ) : Type 0 where
   pub acts : CanAct w v
   pub follows : w.role v ≢ Leader
   pub within : m ≤ w.matched v
 
 -- a leader finds that a majority, itself among them, have an entry of its own term (Raft, sections 5.3 and 5.4.2)
-pub record MayCommit (w : World) (v m : ℕ) : Type 0 where
+pub record MayCommit (w : ProtocolState) (v m : ℕ) : Type 0 where
   pub leads : Leads w v
   pub own : w.start v ≤ m
   pub within : m ≤ length (w.log v)
   pub backed : IsMajority w.size (λ p. (p == v) || nat_le m (acked w.acks (w.term v) p))
 
 -- a member learns from an Order of its term that what it matched is committed (Raft, section 5.3)
-pub record MayLearn (w : World) (v : ℕ) (o : Order) (m : ℕ) : Type 0 where
+pub record MayLearn (w : ProtocolState) (v : ℕ) (o : Order) (m : ℕ) : Type 0 where
   pub acts : CanAct w v
   pub sent : In o w.orders
   pub current : o.term ≡ w.term v
@@ -144,7 +145,7 @@ pub record MayLearn (w : World) (v : ℕ) (o : Order) (m : ℕ) : Type 0 where
 
 -- a member learns from the aggregator's word for its term that what it matched is committed (HovercRaft, on in-network
 -- aggregation)
-pub record MayLearnAggregate (w : World) (v : ℕ) (a : AggregateCommit) (m : ℕ) : Type 0 where
+pub record MayLearnAggregate (w : ProtocolState) (v : ℕ) (a : AggregateCommit) (m : ℕ) : Type 0 where
   pub acts : CanAct w v
   pub sent : In a w.aggregates
   pub current : a.term ≡ w.term v
@@ -153,26 +154,26 @@ pub record MayLearnAggregate (w : World) (v : ℕ) (a : AggregateCommit) (m : �
 
 -- the aggregator finds that a majority have an entry from the leader's own first one on, by Orders and acknowledgements of
 -- the Order's term (HovercRaft, on in-network aggregation; Raft, section 5.4.2)
-pub record MayAggregate (w : World) (o : Order) (m : ℕ) : Type 0 where
+pub record MayAggregate (w : ProtocolState) (o : Order) (m : ℕ) : Type 0 where
   pub sent : In o w.orders
   pub own : o.start ≤ m
   pub backed : IsMajority w.size (λ p. nat_le m (told w.orders o.term p) || nat_le m (acked w.acks o.term p))
 
 -- a member applies what it knows to be committed (Raft, section 5.3)
-pub record MayApply (w : World) (v : ℕ) : Type 0 where
+pub record MayApply (w : ProtocolState) (v : ℕ) : Type 0 where
   pub acts : CanAct w v
   pub due : w.applied v < w.commit v
 
 -- a member answers an entry that it has applied and is to answer, as the one-thread service does (HovercRaft, on load
 -- balancing of replies)
-pub record MayAnswer (w : World) (v index : ℕ) (payload : List ℕ) : Type 0 where
+pub record MayAnswer (w : ProtocolState) (v index : ℕ) (payload : List ℕ) : Type 0 where
   pub acts : CanAct w v
   pub applied : index ≤ w.applied v
   pub replier : (entry_at (w.log v) index).replier ≡ v
   pub right : reply_at (operations w.table (w.log v)) index ≡ Some payload
 
 -- a member that has applied an entry, and is to answer it, repeats a reply (this project's own)
-pub record MayAnswerAgain (w : World) (v : ℕ) (r : Reply) (e : Entry) : Type 0 where
+pub record MayAnswerAgain (w : ProtocolState) (v : ℕ) (r : Reply) (e : Entry) : Type 0 where
   pub acts : CanAct w v
   pub sent : In r w.replied
   pub passed : In (record { member = v; index = r.index; entry = e }) w.passed
@@ -180,65 +181,65 @@ pub record MayAnswerAgain (w : World) (v : ℕ) (r : Reply) (e : Entry) : Type 0
   pub replier : e.replier ≡ v
 
 -- a member asks for a body (HovercRaft, on recovery of lost requests)
-pub record MayAsk (w : World) (v : ℕ) (rid : Rid) : Type 0 where
+pub record MayAsk (w : ProtocolState) (v : ℕ) (rid : Rid) : Type 0 where
   pub acts : CanAct w v
   pub known : IsKnown w.table rid
 
 -- a member gives a body that it holds (HovercRaft, on recovery of lost requests)
-pub record MayGive (w : World) (v : ℕ) (rid : Rid) : Type 0 where
+pub record MayGive (w : ProtocolState) (v : ℕ) (rid : Rid) : Type 0 where
   pub acts : CanAct w v
   pub held : Holds (w.pool v) (w.log v) rid
 
 -- a candidate hears of its term's leader (Raft, section 5.2)
-pub record MayYield (w : World) (v : ℕ) (o : Order) : Type 0 where
+pub record MayYield (w : ProtocolState) (v : ℕ) (o : Order) : Type 0 where
   pub competes : Competes w v
   pub sent : In o w.orders
   pub current : o.term ≡ w.term v
 
 -- a leader learns from an acknowledgement of its term how far a member has applied (HovercRaft, on bounded queues)
-pub record MayNoteReport (w : World) (v : ℕ) (a : Ack) : Type 0 where
+pub record MayNoteReport (w : ProtocolState) (v : ℕ) (a : Ack) : Type 0 where
   pub leads : Leads w v
   pub sent : In a w.acks
   pub of_term : a.term ≡ w.term v
 
 -- a leader notes the index of an acknowledgement of its term (Raft, section 5.3)
-pub record MayNoteAck (w : World) (v : ℕ) (a : Ack) : Type 0 where
+pub record MayNoteAck (w : ProtocolState) (v : ℕ) (a : Ack) : Type 0 where
   pub leads : Leads w v
   pub sent : In a w.acks
   pub current : a.term ≡ w.term v
 
 -- a member's pool is what clients sent
-pub record MayHold (w : World) (v : ℕ) (rids : List Rid) : Type 0 where
+pub record MayHold (w : ProtocolState) (v : ℕ) (rids : List Rid) : Type 0 where
   pub acts : CanAct w v
   pub known : (rid : Rid) → In rid rids → IsKnown w.table rid
 
 -- the aggregator goes on to the term of an Order (HovercRaft, on in-network aggregation)
-pub record MayFollow (w : World) (o : Order) : Type 0 where
+pub record MayFollow (w : ProtocolState) (o : Order) : Type 0 where
   pub sent : In o w.orders
   pub higher : w.aggregator.term < o.term
 
 -- the aggregator notes what an Order of its term shows of the leader
-pub record MayNoteOrder (w : World) (o : Order) : Type 0 where
+pub record MayNoteOrder (w : ProtocolState) (o : Order) : Type 0 where
   pub sent : In o w.orders
   pub current : o.term ≡ w.aggregator.term
 
 -- the aggregator notes an acknowledgement of its term
-pub record MayCollect (w : World) (a : Ack) : Type 0 where
+pub record MayCollect (w : ProtocolState) (a : Ack) : Type 0 where
   pub sent : In a w.acks
   pub current : a.term ≡ w.aggregator.term
 
 -- a member that stopped begins again (Raft, section 5.5)
-pub record MayRestart (w : World) (v : ℕ) : Type 0 where
+pub record MayRestart (w : ProtocolState) (v : ℕ) : Type 0 where
   pub member : v < w.size
   pub stopped : w.up v ≡ false
 
 -- a client sends a request under an id that was not used, and asks for something
-pub record MaySend (w : World) (q : Request) : Type 0 where
+pub record MaySend (w : ProtocolState) (q : Request) : Type 0 where
   pub fresh : IsKnown w.table q.rid → ⊥
   pub asks : is_request q.kind ≡ true
 
 -- the step may be made
-abbrev pub Allowed : World → Rule → Type 0
+abbrev pub Allowed : ProtocolState → Rule → Type 0
 Allowed w (Rise v s) = MayRise w v s
 Allowed w (Stand v) = MayStand w v
 Allowed w (AskVotes v) = Competes w v

@@ -1,57 +1,95 @@
 -- Runs that exist: the rules are not empty.
-use Rattle.std.specs.Prelude.{◌≡◌, ◌≢◌, ℕ, zero, suc, Bool, true, false, ◌==◌, ◌&&◌, ◌||◌, List, [], ◌∷◌, ◌++◌}
+use Rattle.std.specs.Prelude.{◌≡◌, ◌≢◌, ℕ, zero, suc, Bool, true, false, ◌==◌, ◌&&◌, ◌||◌, List, [], ◌∷◌, ◌++◌, Some, None}
 use Rattle.r2_base.specs.declared.entry.Entry.{Entry}
+use Rattle.r2_base.specs.declared.entry.Kind.TheVariants.{Write, Read}
+use Rattle.r2_base.specs.Entry.{blank_entry}
+use Rattle.hc_service.specs.Replies.{payload_of}
 use Rattle.hc_world.specs.Agreed.{agreed}
-use Rattle.hc_world.specs.Log.{In, blank_of}
+use Rattle.hc_world.specs.Log.{In}
 use Rattle.hc_world.specs.Message.{Order, Reply, Request}
 use Rattle.hc_world.specs.Rules.{Rule, Rise, Stand, AskVotes, GrantVote, SendVote, CountVote, Win, OrderRequest, SendOrder, Confirm, Take, Acknowledge, CommitByCount, CommitByOrder, CommitByAggregate, Aggregate, Apply, Answer, AnswerAgain, AskBody, GiveBody, Yield, NoteReport, NoteOwnReport, NoteAck, Hold, Refuse, RejectOrder, Follow, NoteOrder, Collect, Forget, Crash, Restart, SendRequest, entry_of}
-use Rattle.hc_world.specs.Runs.{AllAllowed, world_of}
-use Rattle.hc_world.specs.World.{World, Leader, new_world, unreported}
+use Rattle.hc_world.specs.Runs.{AllAllowed, state_after}
+use Rattle.hc_world.specs.Protocol.{ProtocolState, Committed, Leader, beginning, unreported}
 
 -- some run ends in a step by which a member takes an Order and has another log than before
 pub record IsCut (before behind : List Entry) : Type 0 where
   pub members : ℕ
-  pub most : ℕ
+  pub bounds : ℕ → ℕ
   pub rules : List Rule
   pub member : ℕ
   pub order : Order
   pub stand : ℕ
   pub count : ℕ
-  pub allowed : AllAllowed (new_world members most) (rules ++ Take member order stand count ∷ [])
-  pub had : (world_of members most rules).log member ≡ before
-  pub has : (world_of members most (rules ++ Take member order stand count ∷ [])).log member ≡ behind
+  pub allowed : AllAllowed (beginning members bounds) (rules ++ Take member order stand count ∷ [])
+  pub had : (state_after members bounds rules).log member ≡ before
+  pub has : (state_after members bounds (rules ++ Take member order stand count ∷ [])).log member ≡ behind
 
--- the only reply of a world, to the entry at index 2
-abbrev pub only_reply : Request → List ℕ → Reply
-only_reply q payload = record { request = q.rid; index = 2; payload = payload; place = 1 }
+-- a reply to a request's entry at an index, which went out when the table had so many requests
+abbrev pub reply_to : Request → ℕ → ℕ → List ℕ → Reply
+reply_to q index place payload = record { request = q.rid; index = index; payload = payload; place = place }
 
 -- member 0 leads the first term
-abbrev pub LeadsFirst : World → Type 0
+abbrev pub LeadsFirst : ProtocolState → Type 0
 LeadsFirst w = (w.role 0 ≡ Leader) × (w.term 0 ≡ 1)
 
--- some run answers a request. In its front member 0 orders it for another member, which leaves one entry unreported. Then the
+-- some run answers a request. In its front member 0 orders it for another member, which leaves the entry unreported. Then the
 -- aggregator tells that the entry is committed; the other member learns it from there, applies the entry and answers. In the
 -- end the entry stands behind the leader's first one in the agreed list, has one reply, and nothing is unreported
 pub record IsServed : Type 0 where
   pub members : ℕ
-  pub most : ℕ
+  pub bounds : ℕ → ℕ
   pub front : List Rule
   pub back : List Rule
-  pub allowed : AllAllowed (new_world members most) (front ++ back)
+  pub allowed : AllAllowed (beginning members bounds) (front ++ back)
   pub request : Request
   pub replier : ℕ
   pub payload : List ℕ
-  pub leads : LeadsFirst (world_of members most front)
+  pub leads : LeadsFirst (state_after members bounds front)
   pub other : replier ≢ 0
-  pub ordered : unreported (world_of members most front) 0 replier ≡ 1
-  pub told : In (record { term = 1; index = 2 }) (world_of members most (front ++ back)).aggregates
+  pub ordered : unreported (state_after members bounds front) 0 replier ≡ 2 ∷ []
+  pub told : In (record { term = 1; index = 2 }) (state_after members bounds (front ++ back)).aggregates
   pub learnt : In (CommitByAggregate replier (record { term = 1; index = 2 }) 2) back
-  pub applied : In (record { member = replier; index = 2; entry = entry_of 1 request replier }) (world_of members most (front ++ back)).passed
+  pub applied : In (record { member = replier; index = 2; entry = entry_of 1 request replier }) (state_after members bounds (front ++ back)).passed
   pub answers : In (Answer replier 2 payload) back
-  pub stands : agreed (world_of members most (front ++ back)) ≡ blank_of 1 ∷ entry_of 1 request replier ∷ []
-  pub answered : (world_of members most (front ++ back)).replied ≡ only_reply request payload ∷ []
-  pub still_leads : LeadsFirst (world_of members most (front ++ back))
-  pub reported : unreported (world_of members most (front ++ back)) 0 replier ≡ 0
+  pub stands : agreed (state_after members bounds (front ++ back)) ≡ blank_entry 1 ∷ entry_of 1 request replier ∷ []
+  pub answered : (state_after members bounds (front ++ back)).replied ≡ reply_to request 2 1 payload ∷ []
+  pub still_leads : LeadsFirst (state_after members bounds (front ++ back))
+  pub reported : unreported (state_after members bounds (front ++ back)) 0 replier ≡ []
+
+-- some run of three members commits a request's entry in the first term, whose leader is member 0. Then another member wins
+-- the second term, and begins with the entry in its log
+pub record IsInherited : Type 0 where
+  pub bounds : ℕ → ℕ
+  pub front : List Rule
+  pub back : List Rule
+  pub allowed : AllAllowed (beginning 3 bounds) (front ++ back)
+  pub request : Request
+  pub replier : ℕ
+  pub leads : LeadsFirst (state_after 3 bounds front)
+  pub committed : Committed (state_after 3 bounds front) 1 2
+  pub before : (state_after 3 bounds front).winner 2 ≡ None
+  pub winner : ℕ
+  pub other : winner ≢ 0
+  pub won : (state_after 3 bounds (front ++ back)).winner 2 ≡ Some winner
+  pub still : Committed (state_after 3 bounds (front ++ back)) 1 2
+  pub has : (state_after 3 bounds (front ++ back)).base 2 ≡ blank_entry 1 ∷ entry_of 1 request replier ∷ []
+
+-- a client sets the key a, which is the byte 0x61, to 1, and then reads it
+abbrev pub sets_a : Request
+sets_a =
+    record { rid = record { id = 1; client = record { ip = 1; port = 1 } }; kind = Write; body = 0x50 ∷ 0 ∷ 1 ∷ 0x61 ∷ 1 ∷ [] }
+
+abbrev pub reads_a : Request
+reads_a = record { rid = record { id = 2; client = record { ip = 1; port = 1 } }; kind = Read; body = 0x47 ∷ 0 ∷ 1 ∷ 0x61 ∷ [] }
+
+-- some run of one member with the bound 1 answers both: the reading is first sent when the setting has its reply, so that its
+-- place in the table, 1, is no less than that reply's
+pub record IsAnsweredInOrder : Type 0 where
+  pub rules : List Rule
+  pub allowed : AllAllowed (beginning 1 (λ p. 1)) rules
+  pub table : (state_after 1 (λ p. 1) rules).table ≡ sets_a ∷ reads_a ∷ []
+  pub replied : (state_after 1 (λ p. 1) rules).replied
+      ≡ reply_to reads_a 3 2 (payload_of 3 0 (1 ∷ [])) ∷ reply_to sets_a 2 1 (payload_of 2 0 []) ∷ []
 
 -- the number of a rule among all rules
 abbrev pub rule_number : Rule → ℕ
@@ -104,7 +142,7 @@ has_steps (suc n) rules = has_step n rules && has_steps n rules
 -- some run has a step by each of the rules
 pub record IsMadeOfAll : Type 0 where
   pub members : ℕ
-  pub most : ℕ
+  pub bounds : ℕ → ℕ
   pub rules : List Rule
-  pub allowed : AllAllowed (new_world members most) rules
+  pub allowed : AllAllowed (beginning members bounds) rules
   pub each : has_steps 35 rules ≡ true

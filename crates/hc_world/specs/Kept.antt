@@ -2,33 +2,34 @@
 use Rattle.std.specs.Prelude.{◌≡◌, ◌≢◌, ◌⊎◌, ℕ, suc, ◌+◌, ◌<◌, ◌≤◌, true, false, max, is_some, List, [], length, take, drop, Option, Some, None}
 use Rattle.r2_base.specs.declared.rid.Rid.{Rid}
 use Rattle.r2_base.specs.declared.entry.Entry.{Entry}
-use Rattle.hc_world.specs.Log.{In, IsNotAhead, Share, blank_of, entry_at, is_request, last_term, term_at}
+use Rattle.r2_base.specs.Entry.{blank_entry, is_request}
+use Rattle.hc_world.specs.Log.{In, IsNotAhead, Share, entry_at, last_term, term_at}
 use Rattle.hc_world.specs.Majority.{IsMajority}
 use Rattle.hc_world.specs.Message.{VoteRequest, Vote, Order, Ack, AggregateCommit, Request, Grant, Report, Passed}
 use Rattle.hc_world.specs.Parts.{member_of, stopped_member}
 use Rattle.hc_world.specs.Requests.{At, IsKnown, IsListed}
-use Rattle.hc_world.specs.World.{World, Candidate, Leader, Committed, IsCommittedIn, acked, backs, is_early_for, told, voted}
+use Rattle.hc_world.specs.Protocol.{ProtocolState, Candidate, Leader, Committed, IsCommittedIn, acked, backs, is_early_for, told, voted}
 
 -- Votes (Raft, section 5.2) --
 
 -- a vote was given at a term of at most the voter's
-abbrev pub GrantsAreOld : World → Type 0
+abbrev pub GrantsAreOld : ProtocolState → Type 0
 GrantsAreOld w = (t v : ℕ) (g : Grant) → w.granted t v ≡ Some g → t ≤ w.term v
 
 -- a member's vote is its grant of its term
-abbrev pub VotesAreGrants : World → Type 0
+abbrev pub VotesAreGrants : ProtocolState → Type 0
 VotesAreGrants w = (v : ℕ) → w.vote v ≡ voted w.granted (w.term v) v
 
 -- each vote that was counted was given
-abbrev pub CountedVotesAreGrants : World → Type 0
+abbrev pub CountedVotesAreGrants : ProtocolState → Type 0
 CountedVotesAreGrants w = (v c : ℕ) → w.counted v c ≡ true → voted w.granted (w.term v) c ≡ Some v
 
 -- each vote that was sent was given
-abbrev pub SentVotesAreGrants : World → Type 0
+abbrev pub SentVotesAreGrants : ProtocolState → Type 0
 SentVotesAreGrants w = (x : Vote) → In x w.votes → voted w.granted x.term x.voter ≡ Some x.candidate
 
 -- a late grant, one that was given when the term had been won, is of a term that was won
-abbrev pub LateGrantsAreOfWonTerms : World → Type 0
+abbrev pub LateGrantsAreOfWonTerms : ProtocolState → Type 0
 LateGrantsAreOfWonTerms w = (t v : ℕ) (g : Grant) → w.granted t v ≡ Some g → g.late ≡ true → is_some (w.winner t) ≡ true
 
 -- a member voted for itself at a term, and this was its log
@@ -39,15 +40,15 @@ pub record VotedForItself (granted : ℕ → ℕ → Option Grant) (t v : ℕ) (
   pub same : grant.log ≡ log
 
 -- a candidate voted for itself, and its log is the one of then
-abbrev pub CandidatesVotedForThemselves : World → Type 0
+abbrev pub CandidatesVotedForThemselves : ProtocolState → Type 0
 CandidatesVotedForThemselves w = (v : ℕ) → w.role v ≡ Candidate → VotedForItself w.granted (w.term v) v (w.log v)
 
 -- a candidate's term isn't the first, which has the number 0
-abbrev pub CandidatesHaveTerms : World → Type 0
+abbrev pub CandidatesHaveTerms : ProtocolState → Type 0
 CandidatesHaveTerms w = (v : ℕ) → w.role v ≡ Candidate → 0 < w.term v
 
 -- a candidate hasn't won its term
-abbrev pub CandidatesHaveNotWon : World → Type 0
+abbrev pub CandidatesHaveNotWon : ProtocolState → Type 0
 CandidatesHaveNotWon w = (v : ℕ) → w.role v ≡ Candidate → w.winner (w.term v) ≢ Some v
 
 -- a request for votes tells where the candidate's log ended when it voted for itself
@@ -59,7 +60,7 @@ pub record TellsItsLog (granted : ℕ → ℕ → Option Grant) (q : VoteRequest
   pub last : q.last_term ≡ last_term grant.log
 
 -- each request for votes that was sent does
-abbrev pub VoteRequestsTellLogs : World → Type 0
+abbrev pub VoteRequestsTellLogs : ProtocolState → Type 0
 VoteRequestsTellLogs w = (q : VoteRequest) → In q w.vote_requests → TellsItsLog w.granted q
 
 -- the voter's log isn't ahead of the candidate's, each as it was when it voted (Raft, section 5.4.1)
@@ -70,33 +71,33 @@ pub record IsBehindItsCandidate (granted : ℕ → ℕ → Option Grant) (t : �
   pub behind : IsNotAhead (last_term g.log) (length g.log) (last_term theirs.log) (length theirs.log)
 
 -- no voter's log was ahead of its candidate's
-abbrev pub VotersAreBehind : World → Type 0
+abbrev pub VotersAreBehind : ProtocolState → Type 0
 VotersAreBehind w = (t v : ℕ) (g : Grant) → w.granted t v ≡ Some g → IsBehindItsCandidate w.granted t g
 
 -- Winners (Raft, sections 5.2 and 5.3) --
 
 -- a winner is a member of the group
-abbrev pub WinnersAreMembers : World → Type 0
+abbrev pub WinnersAreMembers : ProtocolState → Type 0
 WinnersAreMembers w = (t c : ℕ) → w.winner t ≡ Some c → c < w.size
 
 -- a term that was won isn't 0
-abbrev pub WonTermsArePositive : World → Type 0
+abbrev pub WonTermsArePositive : ProtocolState → Type 0
 WonTermsArePositive w = (t c : ℕ) → w.winner t ≡ Some c → 0 < t
 
 -- a winner's term is at least the one that it won
-abbrev pub WinnersAreNotBehind : World → Type 0
+abbrev pub WinnersAreNotBehind : ProtocolState → Type 0
 WinnersAreNotBehind w = (t c : ℕ) → w.winner t ≡ Some c → t ≤ w.term c
 
 -- a winner voted for itself with the log that is the term's base
-abbrev pub WinnersVotedForThemselves : World → Type 0
+abbrev pub WinnersVotedForThemselves : ProtocolState → Type 0
 WinnersVotedForThemselves w = (t c : ℕ) → w.winner t ≡ Some c → VotedForItself w.granted t c (w.base t)
 
 -- a majority voted for the winner, before it had won
-abbrev pub WinnersHadMajorities : World → Type 0
+abbrev pub WinnersHadMajorities : ProtocolState → Type 0
 WinnersHadMajorities w = (t c : ℕ) → w.winner t ≡ Some c → IsMajority w.size (λ v. is_early_for c (w.granted t v))
 
 -- while its term is the one that it won, a winner's log is the term's book
-abbrev pub WinnersHaveTheirBooks : World → Type 0
+abbrev pub WinnersHaveTheirBooks : ProtocolState → Type 0
 WinnersHaveTheirBooks w = (t c : ℕ) → w.winner t ≡ Some c → w.term c ≡ t → w.log c ≡ w.book t
 
 -- a leader won its term, and its own first entry stands behind the base
@@ -105,7 +106,7 @@ pub record LedBy (winner : Option ℕ) (base : List Entry) (v start : ℕ) : Typ
   pub start_is : start ≡ suc (length base)
 
 -- each leader has
-abbrev pub LeadersHaveWon : World → Type 0
+abbrev pub LeadersHaveWon : ProtocolState → Type 0
 LeadersHaveWon w = (v : ℕ) → w.role v ≡ Leader → LedBy (w.winner (w.term v)) (w.base (w.term v)) v (w.start v)
 
 -- a term that wasn't won has nothing
@@ -114,7 +115,7 @@ pub record HasNothing (base book : List Entry) : Type 0 where
   pub no_book : book ≡ []
 
 -- neither base nor book
-abbrev pub UnwonTermsHaveNothing : World → Type 0
+abbrev pub UnwonTermsHaveNothing : ProtocolState → Type 0
 UnwonTermsHaveNothing w = (t : ℕ) → w.winner t ≡ None → HasNothing (w.base t) (w.book t)
 
 -- the book of a term is its base, whose entries are of earlier terms, a blank entry of the term, and entries of the term
@@ -122,16 +123,16 @@ pub record IsBookOf (t : ℕ) (base book : List Entry) : Type 0 where
   pub older : (k : ℕ) → k < length base → term_at base (suc k) < t
   pub begins : Share (length base) base book
   pub longer : length base < length book
-  pub blank : entry_at book (suc (length base)) ≡ blank_of t
+  pub blank : entry_at book (suc (length base)) ≡ blank_entry t
   pub own : (k : ℕ) → length base ≤ k → k < length book → term_at book (suc k) ≡ t
 
 -- so is the book of each term that was won
-abbrev pub BooksAreOfTheirTerms : World → Type 0
+abbrev pub BooksAreOfTheirTerms : ProtocolState → Type 0
 BooksAreOfTheirTerms w = (t c : ℕ) → w.winner t ≡ Some c → IsBookOf t (w.base t) (w.book t)
 
 -- Logs (Raft, section 5.3) --
 
--- each list of entries that the world has: the members' logs, the bases, the books, and the logs of voters
+-- each list of entries that the state has: the members' logs, the bases, the books, and the logs of voters
 pub record EachLog (P : List Entry → Type 0) (log base book : ℕ → List Entry) (granted : ℕ → ℕ → Option Grant) : Type 0 where
   pub of_log : (v : ℕ) → P (log v)
   pub of_base : (t : ℕ) → P (base t)
@@ -143,7 +144,7 @@ abbrev pub Matches : (ℕ → List Entry) → List Entry → Type 0
 Matches book log = (k : ℕ) → k < length log → Share (suc k) log (book (term_at log (suc k)))
 
 -- each list of entries does (Raft, section 5.3, the log matching property)
-abbrev pub LogsMatchBooks : World → Type 0
+abbrev pub LogsMatchBooks : ProtocolState → Type 0
 LogsMatchBooks w = EachLog (Matches w.book) w.log w.base w.book w.granted
 
 -- terms never fall, no request stands twice, and each request is the table's under its kind
@@ -154,11 +155,11 @@ pub record IsFormed (table : List Request) (log : List Entry) : Type 0 where
   pub listed : (k : ℕ) → k < length log → is_request (entry_at log (suc k)).kind ≡ true → IsListed table (entry_at log (suc k))
 
 -- each list of entries is well formed
-abbrev pub LogsAreFormed : World → Type 0
+abbrev pub LogsAreFormed : ProtocolState → Type 0
 LogsAreFormed w = EachLog (IsFormed w.table) w.log w.base w.book w.granted
 
 -- a member's entries are of terms up to its own
-abbrev pub EntriesAreOld : World → Type 0
+abbrev pub EntriesAreOld : ProtocolState → Type 0
 EntriesAreOld w = (v k : ℕ) → k < length (w.log v) → term_at (w.log v) (suc k) ≤ w.term v
 
 -- an Order is a slice of its term's book, sent by the winner of the term
@@ -170,13 +171,13 @@ pub record IsSlice (winner : Option ℕ) (base book : List Entry) (o : Order) : 
   pub entries_are : take (length o.entries) (drop o.previous book) ≡ o.entries
 
 -- each Order that was sent is one
-abbrev pub OrdersAreSlices : World → Type 0
+abbrev pub OrdersAreSlices : ProtocolState → Type 0
 OrdersAreSlices w = (o : Order) → In o w.orders → IsSlice (w.winner o.term) (w.base o.term) (w.book o.term) o
 
 -- Acknowledgements (Raft, sections 5.3 and 5.4) --
 
 -- what is matched is the leader's
-abbrev pub MatchedIsTheLeaders : World → Type 0
+abbrev pub MatchedIsTheLeaders : ProtocolState → Type 0
 MatchedIsTheLeaders w = (v : ℕ) → Share (w.matched v) (w.log v) (w.book (w.term v))
 
 -- what was acknowledged is in the book, at a term of at most the member's, and stands in its log while its term is that
@@ -186,7 +187,7 @@ pub record AckedIsTheBooks (t index own : ℕ) (log book : List Entry) : Type 0 
   pub held : own ≡ t → Share index log book
 
 -- so it is with the greatest index that a member acknowledged in a term
-abbrev pub AcknowledgedIsTheLeaders : World → Type 0
+abbrev pub AcknowledgedIsTheLeaders : ProtocolState → Type 0
 AcknowledgedIsTheLeaders w =
     (t v : ℕ) → AckedIsTheBooks t (acked w.acks t v) (w.term v) (w.log v) (w.book t)
 
@@ -196,21 +197,21 @@ pub record IsBelow (own greatest : ℕ) (a : Ack) : Type 0 where
   pub below : a.index ≤ greatest
 
 -- each acknowledgement that was sent is
-abbrev pub AcksAreBelow : World → Type 0
+abbrev pub AcksAreBelow : ProtocolState → Type 0
 AcksAreBelow w = (a : Ack) → In a w.acks → IsBelow (w.term a.member) (acked w.acks a.term a.member) a
 
 -- the bases of the terms won behind t and before an end begin with the first m entries of t's book
-abbrev pub BasesKeep : World → ℕ → ℕ → ℕ → Type 0
+abbrev pub BasesKeep : ProtocolState → ℕ → ℕ → ℕ → Type 0
 BasesKeep w t m end = (s c : ℕ) → t < s → s < end → w.winner s ≡ Some c → Share m (w.base s) (w.book t)
 
 -- what a member has of a book it keeps, if the leaders since then had it
-abbrev pub AcknowledgedIsKept : World → Type 0
+abbrev pub AcknowledgedIsKept : ProtocolState → Type 0
 AcknowledgedIsKept w =
     (t m v : ℕ) → backs w.winner w.acks t m v ≡ true → m ≤ length (w.book t) → BasesKeep w t m (suc (w.term v))
     → Share m (w.log v) (w.book t)
 
 -- and it had it when it voted at a later term that wasn't won yet, if the leaders before that term had it
-abbrev pub GrantedIsKept : World → Type 0
+abbrev pub GrantedIsKept : ProtocolState → Type 0
 GrantedIsKept w =
     (t m u v : ℕ) (g : Grant) → w.granted u v ≡ Some g → g.late ≡ false → t < u → backs w.winner w.acks t m v ≡ true
     → m ≤ length (w.book t) → BasesKeep w t m u → Share m g.log (w.book t)
@@ -227,17 +228,17 @@ pub record IsCommitted (members : ℕ) (winner : ℕ → Option ℕ) (book : ℕ
   pub same : Share c log (book term)
 
 -- what a member knows to be committed is committed
-abbrev pub CommitsAreCommitted : World → Type 0
+abbrev pub CommitsAreCommitted : ProtocolState → Type 0
 CommitsAreCommitted w =
     (v : ℕ) → 0 < w.commit v → IsCommitted w.size w.winner w.book w.acks (w.term v) (w.log v) (w.commit v)
 
 -- and so is what an Order tells
-abbrev pub OrdersTellCommitted : World → Type 0
+abbrev pub OrdersTellCommitted : ProtocolState → Type 0
 OrdersTellCommitted w =
     (o : Order) → In o w.orders → 0 < o.commit → IsCommitted w.size w.winner w.book w.acks o.term (w.book o.term) o.commit
 
 -- and what the aggregator tells
-abbrev pub AggregatesAreCommitted : World → Type 0
+abbrev pub AggregatesAreCommitted : ProtocolState → Type 0
 AggregatesAreCommitted w = (a : AggregateCommit) → In a w.aggregates → Committed w a.term a.index
 
 -- an entry that was applied was committed at its index
@@ -250,20 +251,20 @@ pub record WasCommitted (members : ℕ) (winner : ℕ → Option ℕ) (book : �
   pub same : entry_at (book term) index ≡ e
 
 -- so was each that was applied
-abbrev pub PassedWasCommitted : World → Type 0
+abbrev pub PassedWasCommitted : ProtocolState → Type 0
 PassedWasCommitted w = (x : Passed) → In x w.passed → WasCommitted w.size w.winner w.book w.acks x.index x.entry
 
 -- a member applies only what it knows to be committed
-abbrev pub AppliedIsCommitted : World → Type 0
+abbrev pub AppliedIsCommitted : ProtocolState → Type 0
 AppliedIsCommitted w = (v : ℕ) → w.applied v ≤ w.commit v
 
 -- and it has applied each entry up to there, as it stands in its log
-abbrev pub AppliedWasPassed : World → Type 0
+abbrev pub AppliedWasPassed : ProtocolState → Type 0
 AppliedWasPassed w =
     (v k : ℕ) → k < w.applied v → In (record { member = v; index = suc k; entry = entry_at (w.log v) (suc k) }) w.passed
 
 -- what a leader holds to be reached was acknowledged in its term
-abbrev pub ReachedWasAcknowledged : World → Type 0
+abbrev pub ReachedWasAcknowledged : ProtocolState → Type 0
 ReachedWasAcknowledged w = (v p : ℕ) → w.role v ≡ Leader → w.reached v p ≤ acked w.acks (w.term v) p
 
 -- a member applied an entry at an index
@@ -276,7 +277,7 @@ abbrev pub HasApplied : List Passed → ℕ → ℕ → Type 0
 HasApplied passed v count = (k : ℕ) → k < count → HasPassed passed v (suc k)
 
 -- an acknowledgement tells no more than its member had applied
-abbrev pub AcksTellApplied : World → Type 0
+abbrev pub AcksTellApplied : ProtocolState → Type 0
 AcksTellApplied w = (a : Ack) → In a w.acks → HasApplied w.passed a.member a.applied
 
 -- an acknowledgement of the report's term, by its member, told its index
@@ -298,11 +299,11 @@ pub record WasLearnt (winner : Option ℕ) (acks : List Ack) (passed : List Pass
   pub told : WasTold acks r ⊎ IsItsOwn passed r
 
 -- so was each report (HovercRaft, on bounded queues)
-abbrev pub ReportsWereLearnt : World → Type 0
+abbrev pub ReportsWereLearnt : ProtocolState → Type 0
 ReportsWereLearnt w = (r : Report) → In r w.reports → WasLearnt (w.winner r.term) w.acks w.passed r
 
 -- what the aggregator holds to be reached was sent or acknowledged in its term
-abbrev pub AggregatorWasTold : World → Type 0
+abbrev pub AggregatorWasTold : ProtocolState → Type 0
 AggregatorWasTold w =
     (p : ℕ) → w.aggregator.reached p ≤ max (told w.orders w.aggregator.term p) (acked w.acks w.aggregator.term p)
 
@@ -315,31 +316,31 @@ pub record IsAggregatorsOrder (orders : List Order) (term leader start : ℕ) : 
   pub start_is : order.start ≡ start
 
 -- once it has begun to count
-abbrev pub AggregatorFollowsAnOrder : World → Type 0
+abbrev pub AggregatorFollowsAnOrder : ProtocolState → Type 0
 AggregatorFollowsAnOrder w =
     0 < w.aggregator.term → IsAggregatorsOrder w.orders w.aggregator.term w.aggregator.leader w.aggregator.start
 
 -- Requests (HovercRaft, on separating replication from order) --
 
 -- no request id stands twice in the table
-abbrev pub TableIsDistinct : World → Type 0
+abbrev pub TableIsDistinct : ProtocolState → Type 0
 TableIsDistinct w =
     (i k : ℕ) (q r : Request) → At w.table i q → At w.table k r → q.rid ≡ r.rid → i ≡ k
 
 -- what members hold, asked for and gave are requests of the table
-abbrev pub BodiesAreKnown : World → Type 0
+abbrev pub BodiesAreKnown : ProtocolState → Type 0
 BodiesAreKnown w = (v : ℕ) (rid : Rid) → In rid (w.pool v) ⊎ (In rid w.asked ⊎ In rid w.bodies) → IsKnown w.table rid
 
 -- Crashes (Raft, section 5.5; figure 2 on persistent state) --
 
 -- a member that is down has its term, its vote and its log, and else what one that begins has
-abbrev pub StoppedMembersForgot : World → Type 0
+abbrev pub StoppedMembersForgot : ProtocolState → Type 0
 StoppedMembersForgot w = (v : ℕ) → w.up v ≡ false → member_of w v ≡ stopped_member (w.term v) (w.vote v) (w.log v)
 
 -- All of this together --
 
 -- what every step keeps of votes
-pub record VotesKept (w : World) : Type 0 where
+pub record VotesKept (w : ProtocolState) : Type 0 where
   pub grants_are_old : GrantsAreOld w
   pub votes_are_grants : VotesAreGrants w
   pub counted_votes_are_grants : CountedVotesAreGrants w
@@ -352,7 +353,7 @@ pub record VotesKept (w : World) : Type 0 where
   pub voters_are_behind : VotersAreBehind w
 
 -- of the winners of terms
-pub record WinnersKept (w : World) : Type 0 where
+pub record WinnersKept (w : ProtocolState) : Type 0 where
   pub winners_are_members : WinnersAreMembers w
   pub won_terms_are_positive : WonTermsArePositive w
   pub winners_are_not_behind : WinnersAreNotBehind w
@@ -364,14 +365,14 @@ pub record WinnersKept (w : World) : Type 0 where
   pub books_are_of_their_terms : BooksAreOfTheirTerms w
 
 -- of logs and Orders
-pub record LogsKept (w : World) : Type 0 where
+pub record LogsKept (w : ProtocolState) : Type 0 where
   pub logs_match_books : LogsMatchBooks w
   pub logs_are_formed : LogsAreFormed w
   pub entries_are_old : EntriesAreOld w
   pub orders_are_slices : OrdersAreSlices w
 
 -- of acknowledgements
-pub record AcksKept (w : World) : Type 0 where
+pub record AcksKept (w : ProtocolState) : Type 0 where
   pub matched_is_the_leaders : MatchedIsTheLeaders w
   pub acknowledged_is_the_leaders : AcknowledgedIsTheLeaders w
   pub acks_are_below : AcksAreBelow w
@@ -379,7 +380,7 @@ pub record AcksKept (w : World) : Type 0 where
   pub granted_is_kept : GrantedIsKept w
 
 -- of what is committed
-pub record CommitsKept (w : World) : Type 0 where
+pub record CommitsKept (w : ProtocolState) : Type 0 where
   pub commits_are_committed : CommitsAreCommitted w
   pub orders_tell_committed : OrdersTellCommitted w
   pub aggregates_are_committed : AggregatesAreCommitted w
@@ -393,12 +394,12 @@ pub record CommitsKept (w : World) : Type 0 where
   pub aggregator_follows_an_order : AggregatorFollowsAnOrder w
 
 -- of requests
-pub record RequestsKept (w : World) : Type 0 where
+pub record RequestsKept (w : ProtocolState) : Type 0 where
   pub table_is_distinct : TableIsDistinct w
   pub bodies_are_known : BodiesAreKnown w
 
 -- what every step keeps
-pub record Kept (w : World) : Type 0 where
+pub record Kept (w : ProtocolState) : Type 0 where
   pub votes : VotesKept w
   pub winners : WinnersKept w
   pub logs : LogsKept w

@@ -1,7 +1,7 @@
 pub mod Majority
 pub mod Log
 pub mod Message
-pub mod World
+pub mod Protocol
 pub mod Requests
 pub mod Rules
 pub mod Conditions
@@ -12,4 +12,5 @@ pub mod Agreed
 pub mod Replies
 pub mod Loose
 pub mod Examples
+pub mod Sequences
 pub mod Laws

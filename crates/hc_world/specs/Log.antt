@@ -1,33 +1,18 @@
 -- Logs without bodies: their entries by index, what two of them share, and when one is as recent as another.
-use Rattle.std.specs.Prelude.{◌≡◌, ◌≢◌, ℕ, zero, suc, ◌+◌, ◌<◌, ◌≤◌, Bool, true, false, ◌==◌, ◌&&◌, ◌⊎◌, List, [], ◌∷◌, length, take, get_or}
+use Rattle.std.specs.Prelude.{◌≡◌, ◌≢◌, ℕ, zero, suc, ◌+◌, ◌<◌, ◌≤◌, true, ◌⊎◌, List, [], ◌∷◌, length, take, get_or}
 use Rattle.r2_base.specs.declared.rid.Rid.{Rid}
-use Rattle.r2_base.specs.declared.entry.Kind.{Kind}
-use Rattle.r2_base.specs.declared.entry.Kind.TheVariants.{Blank, Write, Read}
 use Rattle.r2_base.specs.declared.entry.Entry.{Entry}
+use Rattle.r2_base.specs.Entry.{blank_entry, is_request}
 
 -- x is one of the items
 abbrev pub In : {A : Type 0} → A → List A → Type 0
 In x [] = ⊥
 In x (y ∷ ys) = (x ≡ y) ⊎ In x ys
 
--- an entry of this kind has a request
-abbrev pub is_request : Kind → Bool
-is_request Blank = false
-is_request Write = true
-is_request Read = true
-
--- whether two request ids are the same
-abbrev pub same_rid : Rid → Rid → Bool
-same_rid a b = (a.id == b.id) && (a.client.ip == b.client.ip) && (a.client.port == b.client.port)
-
--- the entry that a new leader of a term appends (Raft, section 8)
-abbrev pub blank_of : ℕ → Entry
-blank_of term = record { term = term; kind = Blank; rid = record { id = 0; client = record { ip = 0; port = 0 } }; replier = 255 }
-
 -- the entry at an index, counted from 1; outside the log there is a blank one of term 0
 abbrev pub entry_at : List Entry → ℕ → Entry
-entry_at log zero = blank_of 0
-entry_at log (suc before) = get_or log before (blank_of 0)
+entry_at log zero = blank_entry 0
+entry_at log (suc before) = get_or log before (blank_entry 0)
 
 -- the term of the entry at an index, and 0 at index 0
 abbrev pub term_at : List Entry → ℕ → ℕ

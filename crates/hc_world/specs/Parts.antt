@@ -1,13 +1,13 @@
--- What a step leaves: the parts of the world that each rule changes, by name; all others stay.
+-- What a step leaves: the parts of the state that each rule changes, by name; all others stay.
 use Rattle.std.specs.Prelude.{◌≡◌, ◌≢◌, ℕ, ◌≤◌, Bool, false, ◌==◌, ◌||◌, List, [], ◌∷◌, ◌++◌, length, Option, Some}
 use Rattle.r2_base.specs.declared.rid.Rid.{Rid}
 use Rattle.r2_base.specs.declared.entry.Entry.{Entry}
 use Rattle.hc_world.specs.Log.{In, Share}
 use Rattle.hc_world.specs.Message.{VoteRequest, Vote, Order, Ack, AggregateCommit, Refusal, Nack, Request, Grant, Report, Passed, Reply}
 use Rattle.hc_world.specs.Rules.{Rule, Rise, Stand, AskVotes, GrantVote, SendVote, CountVote, Win, OrderRequest, SendOrder, Confirm, Take, Acknowledge, CommitByCount, CommitByOrder, CommitByAggregate, Aggregate, Apply, Answer, AnswerAgain, AskBody, GiveBody, Yield, NoteReport, NoteOwnReport, NoteAck, Hold, Refuse, RejectOrder, Follow, NoteOrder, Collect, Forget, Crash, Restart, SendRequest}
-use Rattle.hc_world.specs.World.{World, Role, Follower, acked}
+use Rattle.hc_world.specs.Protocol.{ProtocolState, Role, Follower, acked}
 
--- the parts of the world, by their names there
+-- the parts of the state, by their names there
 pub data Part : Type 0 where
   Terms VoteOfTerm Logs Up Roles Counted Matched Commits Applied Starts Reached Pools : Part
   TheAggregator VoteRequests Votes Orders Acks Aggregates Refusals Nacks Asked Bodies Table : Part
@@ -46,8 +46,8 @@ part_number Reports = 27
 part_number Passes = 28
 part_number Replies = 29
 
--- two worlds have the same there
-abbrev pub Same : Part → World → World → Type 0
+-- two states have the same there
+abbrev pub Same : Part → ProtocolState → ProtocolState → Type 0
 Same Terms w x = x.term ≡ w.term
 Same VoteOfTerm w x = x.vote ≡ w.vote
 Same Logs w x = x.log ≡ w.log
@@ -122,14 +122,14 @@ abbrev pub is_named : Part → List Part → Bool
 is_named p [] = false
 is_named p (q ∷ more) = (part_number p == part_number q) || is_named p more
 
--- a rule leaves a part that it doesn't change; no rule changes the size of the group or the bound
-pub record Leaves (w : World) (r : Rule) (x : World) : Type 0 where
+-- a rule leaves a part that it doesn't change; no rule changes the size of the group or a bound
+pub record Leaves (w : ProtocolState) (r : Rule) (x : ProtocolState) : Type 0 where
   pub size : x.size ≡ w.size
   pub bound : x.bound ≡ w.bound
   pub part : (p : Part) → is_named p (changed_by r) ≡ false → Same p w x
 
 -- what only grows: what was sent, granted, won, learnt, applied or answered stays, books and the table grow behind
-pub record Grows (w x : World) : Type 0 where
+pub record Grows (w x : ProtocolState) : Type 0 where
   pub terms : (v : ℕ) → w.term v ≤ x.term v
   pub grants : (t v : ℕ) (g : Grant) → w.granted t v ≡ Some g → x.granted t v ≡ Some g
   pub winners : (t c : ℕ) → w.winner t ≡ Some c → x.winner t ≡ Some c
@@ -150,7 +150,7 @@ pub record Grows (w x : World) : Type 0 where
   pub passed : (e : Passed) → In e w.passed → In e x.passed
   pub replied : (r : Reply) → In r w.replied → In r x.replied
 
--- what the world has of one member
+-- what the state has of one member
 pub record MemberOf : Type 0 where
   pub term : ℕ
   pub vote : Option ℕ
@@ -165,8 +165,8 @@ pub record MemberOf : Type 0 where
   pub reached : ℕ → ℕ
   pub pool : List Rid
 
--- a member as it is in the world
-abbrev pub member_of : World → ℕ → MemberOf
+-- a member as it is in the state
+abbrev pub member_of : ProtocolState → ℕ → MemberOf
 member_of w u =
     record {
       term = w.term u;

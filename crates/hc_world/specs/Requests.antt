@@ -1,9 +1,12 @@
 -- The table of requests: which requests were sent, and a log's operations with the bodies that stand in the table.
-use Rattle.std.specs.Prelude.{◌≡◌, ℕ, zero, suc, if◌then◌else◌, List, [], ◌∷◌, map}
+use Rattle.std.specs.Prelude.{◌≡◌, ℕ, zero, suc, if◌then◌else◌, List, [], ◌∷◌}
 use Rattle.r2_base.specs.declared.rid.Rid.{Rid}
 use Rattle.r2_base.specs.declared.entry.Entry.{Entry}
+use Rattle.r2_base.specs.Entry.{is_request}
+use Rattle.r2_base.specs.Names.{same_rid}
+use Rattle.hc_service.specs.Operations.{operations_of}
 use Rattle.hc_service.specs.Replies.{Operation}
-use Rattle.hc_world.specs.Log.{In, is_request, same_rid}
+use Rattle.hc_world.specs.Log.{In}
 use Rattle.hc_world.specs.Message.{Request}
 
 -- a request of the table that has this id
@@ -30,10 +33,10 @@ abbrev pub body_of : List Request → Rid → List ℕ
 body_of [] rid = []
 body_of (q ∷ more) rid = if same_rid rid q.rid then q.body else body_of more rid
 
--- an entry as the service sees it; a blank one has no body
-abbrev pub operation_of : List Request → Entry → Operation
-operation_of table e = record { kind = e.kind; body = if is_request e.kind then body_of table e.rid else [] }
+-- the body of an entry's request; a blank one has none
+abbrev pub entry_body : List Request → Entry → List ℕ
+entry_body table e = if is_request e.kind then body_of table e.rid else []
 
 -- a log as the service sees it
 abbrev pub operations : List Request → List Entry → List Operation
-operations table log = map (operation_of table) log
+operations table log = operations_of (λ e. e.kind) (entry_body table) log

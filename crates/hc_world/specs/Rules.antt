@@ -1,11 +1,12 @@
--- The rules: what each step of the protocol changes in the world. When a step may be made stands beside this page.
+-- The rules: what each step of the protocol changes in the state. When a step may be made stands beside this page.
 use Rattle.std.specs.Prelude.{ℕ, suc, ◌+◌, true, false, max, min, ◌==◌, is_some, List, [], ◌∷◌, ◌++◌, length, take, drop, Option, Some, None}
 use Rattle.std.specs.Option.{unwrap_or}
 use Rattle.r2_base.specs.declared.rid.Rid.{Rid}
 use Rattle.r2_base.specs.declared.entry.Entry.{Entry}
-use Rattle.hc_world.specs.Log.{blank_of, entry_at, last_term, term_at}
+use Rattle.r2_base.specs.Entry.{blank_entry}
+use Rattle.hc_world.specs.Log.{entry_at, last_term, term_at}
 use Rattle.hc_world.specs.Message.{VoteRequest, Vote, Order, Ack, AggregateCommit, Request, Grant, Report, Passed, Reply, Aggregator}
-use Rattle.hc_world.specs.World.{World, Follower, Candidate, Leader, new_aggregator, put}
+use Rattle.hc_world.specs.Protocol.{ProtocolState, Follower, Candidate, Leader, new_aggregator, put}
 
 -- the steps. v is the member that makes one
 pub data Rule : Type 0 where
@@ -75,7 +76,7 @@ pub data Rule : Type 0 where
   SendRequest : Request → Rule
 
 -- the candidate's request for votes
-abbrev pub vote_request : World → ℕ → VoteRequest
+abbrev pub vote_request : ProtocolState → ℕ → VoteRequest
 vote_request w v =
     record { term = w.term v; candidate = v; last_index = length (w.log v); last_term = last_term (w.log v) }
 
@@ -84,7 +85,7 @@ abbrev pub vote_of : ℕ → ℕ → ℕ → Vote
 vote_of t v c = record { term = t; voter = v; candidate = c }
 
 -- a grant by v to c at a term
-abbrev pub grant_of : World → ℕ → ℕ → ℕ → Grant
+abbrev pub grant_of : ProtocolState → ℕ → ℕ → ℕ → Grant
 grant_of w t v c = record { candidate = c; log = w.log v; late = is_some (w.winner t) }
 
 -- the votes with one of v at a term, unless there is one
@@ -96,7 +97,7 @@ abbrev pub entry_of : ℕ → Request → ℕ → Entry
 entry_of t q p = record { term = t; kind = q.kind; rid = q.rid; replier = p }
 
 -- the Order that a leader sends
-abbrev pub order_of : World → ℕ → ℕ → ℕ → Order
+abbrev pub order_of : ProtocolState → ℕ → ℕ → ℕ → Order
 order_of w v previous count =
     record {
       term = w.term v;
@@ -113,19 +114,19 @@ abbrev pub taken : List Entry → Order → ℕ → ℕ → List Entry
 taken log o i k = take (o.previous + i) log ++ drop i (take k o.entries)
 
 -- a member's acknowledgement of an index
-abbrev pub ack_of : World → ℕ → ℕ → Ack
+abbrev pub ack_of : ProtocolState → ℕ → ℕ → Ack
 ack_of w v m = record { term = w.term v; member = v; index = m; applied = w.applied v }
 
 -- the entry that a member applies next
-abbrev pub next_passed : World → ℕ → Passed
+abbrev pub next_passed : ProtocolState → ℕ → Passed
 next_passed w v = record { member = v; index = suc (w.applied v); entry = entry_at (w.log v) (suc (w.applied v)) }
 
 -- a reply that goes out now
-abbrev pub reply_of : World → Rid → ℕ → List ℕ → Reply
+abbrev pub reply_of : ProtocolState → Rid → ℕ → List ℕ → Reply
 reply_of w request index payload = record { request = request; index = index; payload = payload; place = length w.table }
 
 -- what a leader learnt of a member
-abbrev pub report_of : World → ℕ → ℕ → ℕ → Report
+abbrev pub report_of : ProtocolState → ℕ → ℕ → ℕ → Report
 report_of w v p index = record { leader = v; term = w.term v; member = p; index = index }
 
 -- the aggregator at the beginning of an Order's term
@@ -137,7 +138,7 @@ abbrev pub reaching : Aggregator → ℕ → ℕ → Aggregator
 reaching a p index = record a { reached = put a.reached p (max (a.reached p) index) }
 
 -- v has a greater term, and has done nothing in it
-abbrev pub risen : World → ℕ → ℕ → World
+abbrev pub risen : ProtocolState → ℕ → ℕ → ProtocolState
 risen w v s =
     record w {
       term = put w.term v s;
@@ -148,7 +149,7 @@ risen w v s =
     }
 
 -- v is a candidate of the next term, and voted for itself
-abbrev pub stood : World → ℕ → World
+abbrev pub stood : ProtocolState → ℕ → ProtocolState
 stood w v =
     record w {
       term = put w.term v (suc (w.term v));
@@ -160,7 +161,7 @@ stood w v =
     }
 
 -- v voted for c
-abbrev pub having_voted : World → ℕ → ℕ → World
+abbrev pub having_voted : ProtocolState → ℕ → ℕ → ProtocolState
 having_voted w v c =
     record w {
       vote = put w.vote v (Some c);
@@ -168,21 +169,21 @@ having_voted w v c =
     }
 
 -- v leads: its log is the term's base, and with a blank entry its book
-abbrev pub won : World → ℕ → World
+abbrev pub won : ProtocolState → ℕ → ProtocolState
 won w v =
     record w {
       role = put w.role v Leader;
       winner = put w.winner (w.term v) (Some v);
       base = put w.base (w.term v) (w.log v);
-      log = put w.log v (w.log v ++ blank_of (w.term v) ∷ []);
-      book = put w.book (w.term v) (w.log v ++ blank_of (w.term v) ∷ []);
+      log = put w.log v (w.log v ++ blank_entry (w.term v) ∷ []);
+      book = put w.book (w.term v) (w.log v ++ blank_entry (w.term v) ∷ []);
       matched = put w.matched v (suc (length (w.log v)));
       start = put w.start v (suc (length (w.log v)));
       reached = put w.reached v (λ p. 0);
     }
 
 -- a leader's log, and its term's book, have one entry more
-abbrev pub ordered : World → ℕ → Entry → World
+abbrev pub ordered : ProtocolState → ℕ → Entry → ProtocolState
 ordered w v e =
     record w {
       log = put w.log v (w.log v ++ e ∷ []);
@@ -191,7 +192,7 @@ ordered w v e =
     }
 
 -- v has this log, which is its leader's up to an index
-abbrev pub matching : World → ℕ → List Entry → ℕ → World
+abbrev pub matching : ProtocolState → ℕ → List Entry → ℕ → ProtocolState
 matching w v log index =
     record w {
       role = put w.role v Follower;
@@ -200,26 +201,26 @@ matching w v log index =
     }
 
 -- v knows that so much is committed
-abbrev pub committed : World → ℕ → ℕ → World
+abbrev pub committed : ProtocolState → ℕ → ℕ → ProtocolState
 committed w v m = record w { commit = put w.commit v (max (w.commit v) m) }
 
 -- a reply went out
-abbrev pub answered : World → Rid → ℕ → List ℕ → World
+abbrev pub answered : ProtocolState → Rid → ℕ → List ℕ → ProtocolState
 answered w request index payload = record w { replied = reply_of w request index payload ∷ w.replied }
 
 -- a leader learnt how far a member has applied
-abbrev pub learnt : World → ℕ → ℕ → ℕ → World
+abbrev pub learnt : ProtocolState → ℕ → ℕ → ℕ → ProtocolState
 learnt w v p index = record w { reports = report_of w v p index ∷ w.reports }
 
 -- a leader holds an index of its log to be reached by a member
-abbrev pub noted : World → ℕ → ℕ → ℕ → World
+abbrev pub noted : ProtocolState → ℕ → ℕ → ℕ → ProtocolState
 noted w v p index =
     record w {
       reached = put w.reached v (put (w.reached v) p (max (w.reached v p) (min index (length (w.log v)))));
     }
 
 -- v has stopped, and lost all but its term, its vote and its log
-abbrev pub crashed : World → ℕ → World
+abbrev pub crashed : ProtocolState → ℕ → ProtocolState
 crashed w v =
     record w {
       up = put w.up v false;
@@ -233,8 +234,8 @@ crashed w v =
       pool = put w.pool v [];
     }
 
--- the world behind a step, rule by rule
-abbrev pub after : World → Rule → World
+-- the state after a step, rule by rule
+abbrev pub after : ProtocolState → Rule → ProtocolState
 after w (Rise v s) = risen w v s
 after w (Stand v) = stood w v
 after w (AskVotes v) = record w { vote_requests = vote_request w v ∷ w.vote_requests }

@@ -1,9 +1,9 @@
 //! What holds of the rules, and of every run of them: members of the group that are up make steps that are allowed, messages
 //! are lost, repeated and taken in any order, and members stop and begin again with what they had made durable.
 
-ghost use Rattle.hc_world.specs.Laws.{RulesLeaveTheRest, RulesOnlyAdd, RulesSpareOthers, BeginningIsKept, StepsKeep, RunsKeep, LaterLeadersHaveIt, OneTermCommits, AgreedIsAgreed, AgreedGrows, CommittedIsAgreed, AppliedIsAgreed, MembersApplyTheSame, NoRequestTwice, BeginningIsAnswered, StepsAnswer, RunsAnswer, RepliesAreTheServices, RepliesAreInOrder, LeadersKeepTheBound, CountingAnywhereBreaks, CountingAnywhereDivides, CuttingAnywhereBreaks, CuttingAnywhereDivides, ConflictsAreCut, RequestsAreAnswered, EveryRuleIsMade};
+ghost use Rattle.hc_world.specs.Laws.{RulesLeaveTheRest, RulesOnlyAdd, RulesSpareOthers, BeginningIsKept, StepsKeep, RunsKeep, LaterLeadersHaveIt, OneTermCommits, AgreedIsAgreed, AgreedGrows, CommittedIsAgreed, AppliedIsAgreed, MembersApplyTheSame, AgreedWasAsked, NoRequestTwice, BeginningIsAnswered, StepsAnswer, RunsAnswer, RepliesAreTheServices, RepliesAreInOrder, UnreportedAreThese, LeadersKeepTheBound, GivenWithinBounds, CountingAnywhereBreaks, CountingAnywhereDivides, CuttingAnywhereBreaks, CuttingAnywhereDivides, ConflictsAreCut, RequestsAreAnswered, EntriesAreInherited, RequestsAreAnsweredInOrder, EveryRuleIsMade};
 
-/// A rule leaves each part of the world that it doesn't name.
+/// A rule leaves each part of the state that it doesn't name.
 pub fn rules_leave_the_rest()
     ensures { RulesLeaveTheRest }
 {}
@@ -68,6 +68,11 @@ pub fn members_apply_the_same()
     ensures { MembersApplyTheSame }
 {}
 
+/// Each Write or Read of the agreed list is a request that a client sent, under its kind.
+pub fn what_is_agreed_was_asked_for()
+    ensures { AgreedWasAsked }
+{}
+
 /// No request id stands twice in the agreed list.
 pub fn no_request_stands_twice()
     ensures { NoRequestTwice }
@@ -98,9 +103,20 @@ pub fn replies_are_in_order()
     ensures { RepliesAreInOrder }
 {}
 
-/// A leader's unreported entries for a member are at most the bound (HovercRaft, on bounded queues).
+/// A leader's unreported entries for a member are those of its term that are given to the member, above every index that the
+/// member reported in it.
+pub fn unreported_are_these()
+    ensures { UnreportedAreThese }
+{}
+
+/// A leader's unreported entries for a member are at most the member's bound (HovercRaft, on bounded queues).
 pub fn leaders_keep_the_bound()
     ensures { LeadersKeepTheBound }
+{}
+
+/// Each Write or Read of a log is given to a member of the group whose bound is above 0: one whose bound is 0 answers none.
+pub fn requests_are_given_within_bounds()
+    ensures { GivenWithinBounds }
 {}
 
 /// Why the aggregator counts only from its leader's own first entry on: without this condition there is a run in which it
@@ -134,6 +150,16 @@ pub fn conflicts_are_cut()
 /// the member that it was given to, and reported.
 pub fn requests_are_answered()
     ensures { RequestsAreAnswered }
+{}
+
+/// There is a run of three members in which an entry is committed, and another member then leads with it in its log.
+pub fn entries_are_inherited()
+    ensures { EntriesAreInherited }
+{}
+
+/// There is a run of one member in which a client sets a key, gets the reply, reads the key, and is answered the value.
+pub fn requests_are_answered_in_order()
+    ensures { RequestsAreAnsweredInOrder }
 {}
 
 /// No rule is empty: there is a run that has a step by each of them.

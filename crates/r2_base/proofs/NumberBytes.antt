@@ -1,166 +1,115 @@
--- The bytes of a number and the number of bytes are each other's inverse.
-use Rattle.std.proofs.Common.{◌≡◌, ℕ, zero, suc, ◌<◌, ◌^◌, ◌≤◌, List, [], ◌∷◌, ◌++◌, length, get_or, drop, arith, refl, sym, ap, ◌∙◌}
+-- The bytes of a number and the number of bytes are each other's inverse, for each width.
+use Rattle.std.proofs.Common.{◌≡◌, ℕ, zero, suc, ◌+◌, ◌<◌, ◌^◌, ◌≤◌, List, ◌++◌, length, take, drop, arith, inl, inr, refl, sym, ap, ◌∙◌}
 use Rattle.std.proofs.lemmas.Nat.{be_bytes_2, be_bytes_4, be_bytes_8, from_be_bytes-to_be_bytes_2, from_be_bytes-to_be_bytes_4, from_be_bytes-to_be_bytes_8}
-use Rattle.std.specs.Int.{w16, w32, w64, byte_at, from_be_bytes}
+use Rattle.std.proofs.lemmas.Bool.{cases_lt}
+use Rattle.std.proofs.lemmas.List.{get_or-take, get_or_append_left, get_or_past, drop_at, take-append-drop, length-append, length-take}
+use Rattle.std.specs.Int.{byte_at}
+use Rattle.byteorder.specs.Endian.{big_bytes, big_from, big_number}
 use Rattle.r2_base.specs.Numbers.{u16_bytes, u32_bytes, u64_bytes, AreBytes}
 
-pub byte_at-lt : (below n : ℕ) → byte_at below n < 256
+pub byte_at-lt : (place n : ℕ) → byte_at place n < 256
 byte_at-lt zero n = omega arith
-byte_at-lt (suc below) n = omega arith
+byte_at-lt (suc place) n = omega arith
+
+-- the first bytes alone make the number
+big_from-append : (i n : ℕ) (xs ys : List ℕ) → i + n ≤ length xs → big_from i n (xs ++ ys) ≡ big_from i n xs
+big_from-append i zero xs ys within = refl
+big_from-append i (suc n) xs ys within =
+    rw (get_or_append_left xs ys 0 i (omega arith), big_from-append (suc i) n xs ys (omega arith)) refl
+
+pub AreBytes-take : (n : ℕ) (bytes : List ℕ) → AreBytes bytes → AreBytes (take n bytes)
+AreBytes-take n bytes are i =
+    elim (cases_lt i n) [
+      | inl lt ↦ rw (get_or-take n bytes i 0 lt) (are i)
+      | inr le ↦ rw (get_or_past (take n bytes) i 0 (omega (arith, length-take n bytes))) (omega arith)
+    ]
+
+-- each of a number's bytes is a byte
+AreBytes-big_bytes : (size n : ℕ) → AreBytes (big_bytes size n)
+AreBytes-big_bytes zero n i = omega arith
+AreBytes-big_bytes (suc size) n zero = byte_at-lt size n
+AreBytes-big_bytes (suc size) n (suc i) = AreBytes-big_bytes size n i
+
+-- numbers below a limit have so many bytes, which give them back
+pub record IsWide (size limit : ℕ) (text : ℕ → List ℕ) : Type 0 where
+  pub len : (n : ℕ) → length (text n) ≡ size
+  pub are_bytes : (n : ℕ) → AreBytes (text n)
+  pub again : (n : ℕ) → n < limit → big_number size (text n) ≡ n
+  pub back : (bytes : List ℕ) → length bytes ≡ size → AreBytes bytes → text (big_number size bytes) ≡ bytes
+  pub below : (bytes : List ℕ) → AreBytes bytes → big_number size bytes < limit
+
+pub wide16 : IsWide 2 (2 ^ 16) u16_bytes
+unfolding u16_bytes
+wide16 = record {
+  len = λ n. refl;
+  are_bytes = AreBytes-big_bytes 2;
+  again = λ n fits. omega (arith, from_be_bytes-to_be_bytes_2 n fits);
+  back = λ bytes len small. be_bytes_2 bytes (big_number 2 bytes) len small (omega arith);
+  below = λ bytes small. omega (arith, small 0, small 1);
+}
+
+pub wide32 : IsWide 4 (2 ^ 32) u32_bytes
+unfolding u32_bytes
+wide32 = record {
+  len = λ n. refl;
+  are_bytes = AreBytes-big_bytes 4;
+  again = λ n fits. omega (arith, from_be_bytes-to_be_bytes_4 n fits);
+  back = λ bytes len small. be_bytes_4 bytes (big_number 4 bytes) len small (omega arith);
+  below = λ bytes small. omega (arith, small 0, small 1, small 2, small 3);
+}
+
+pub wide64 : IsWide 8 (2 ^ 64) u64_bytes
+unfolding u64_bytes
+wide64 = record {
+  len = λ n. refl;
+  are_bytes = AreBytes-big_bytes 8;
+  again = λ n fits. omega (arith, from_be_bytes-to_be_bytes_8 n fits);
+  back = λ bytes len small. be_bytes_8 bytes (big_number 8 bytes) len small (omega arith);
+  below = λ bytes small. omega (arith, small 0, small 1, small 2, small 3, small 4, small 5, small 6, small 7);
+}
+
+-- a number's bytes, whatever stands after them, give it back
+pub wide-again : (size limit : ℕ) (text : ℕ → List ℕ) → IsWide size limit text → (n : ℕ) (rest : List ℕ) → n < limit → big_number size (text n ++ rest) ≡ n
+wide-again size limit text wide n rest fits =
+    big_from-append 0 size (text n) rest (omega (arith, wide.len n)) ∙ wide.again n fits
+
+-- bytes begin with those of the number that the first of them give
+pub wide-begin : (size limit : ℕ) (text : ℕ → List ℕ) → IsWide size limit text → (bytes : List ℕ) → AreBytes bytes → size ≤ length bytes
+    → bytes ≡ text (big_number size bytes) ++ drop size bytes
+wide-begin size limit text wide bytes small long =
+    let prefix = take size bytes in
+    let len : length prefix ≡ size = omega (arith, length-take size bytes) in
+    let whole : prefix ++ drop size bytes ≡ bytes = take-append-drop size bytes in
+    let number : big_number size bytes ≡ big_number size prefix =
+    sym (ap (big_number size) whole) ∙ big_from-append 0 size prefix (drop size bytes) (omega arith) in
+    let same : text (big_number size bytes) ≡ prefix = ap text number ∙ wide.back prefix len (AreBytes-take size bytes small) in
+    sym whole ∙ ap (λ (p : List ℕ). p ++ drop size bytes) (sym same)
+
+-- what is known of bytes that begin with those of a number
+pub record Begins (size n : ℕ) (bytes rest : List ℕ) : Type 0 where
+  pub long : size ≤ length bytes
+  pub number : big_number size bytes ≡ n
+  pub after : drop size bytes ≡ rest
+
+-- bytes that begin with a number's give it, and the rest after it
+pub wide-first : (size limit : ℕ) (text : ℕ → List ℕ) → IsWide size limit text → (bytes : List ℕ) (n : ℕ) (rest : List ℕ) → n < limit → bytes ≡ text n ++ rest
+    → Begins size n bytes rest
+wide-first size limit text wide bytes n rest fits same =
+    record {
+      long = omega (arith, ap length same, length-append (text n) rest, wide.len n);
+      number = ap (big_number size) same ∙ wide-again size limit text wide n rest fits;
+      after = ap (drop size) same ∙ drop_at (text n) rest size (wide.len n);
+    }
+
+-- numbers of one width with the same bytes are the same
+pub wide-injective : (size limit : ℕ) (text : ℕ → List ℕ) → IsWide size limit text → (m n : ℕ) → m < limit → n < limit → text m ≡ text n → m ≡ n
+wide-injective size limit text wide m n fits_m fits_n same = sym (wide.again m fits_m) ∙ ap (big_number size) same ∙ wide.again n fits_n
 
 pub length-u16_bytes : (n : ℕ) → length (u16_bytes n) ≡ 2
-unfolding u16_bytes
-length-u16_bytes n = refl
-
-pub AreBytes-u16_bytes : (n : ℕ) → AreBytes (u16_bytes n)
-unfolding u16_bytes
-AreBytes-u16_bytes n zero = byte_at-lt 1 n
-AreBytes-u16_bytes n (suc zero) = byte_at-lt 0 n
-AreBytes-u16_bytes n (suc (suc i)) = omega arith
-
--- the bytes of a number give it back
-pub from_be_bytes-u16_bytes : (n : ℕ) → n < 2 ^ 16 → from_be_bytes w16 (u16_bytes n) ≡ n
-unfolding u16_bytes
-from_be_bytes-u16_bytes n fits = from_be_bytes-to_be_bytes_2 n fits
-
--- 2 bytes are those of the number that they give
-pub u16_bytes-from_be_bytes : (bytes : List ℕ) → length bytes ≡ 2 → AreBytes bytes → u16_bytes (from_be_bytes w16 bytes) ≡ bytes
-unfolding u16_bytes
-u16_bytes-from_be_bytes bytes len small = be_bytes_2 bytes (from_be_bytes w16 bytes) len small refl
-
-pub u16_bytes-injective : (m n : ℕ) → m < 2 ^ 16 → n < 2 ^ 16 → u16_bytes m ≡ u16_bytes n → m ≡ n
-u16_bytes-injective m n fits_m fits_n same = sym (from_be_bytes-u16_bytes m fits_m) ∙ ap (from_be_bytes w16) same ∙ from_be_bytes-u16_bytes n fits_n
-
--- 2 bytes each that give the same number are the same
-pub same_2_bytes : (bytes others : List ℕ) → length bytes ≡ 2 → length others ≡ 2 → AreBytes bytes → AreBytes others
-    → from_be_bytes w16 bytes ≡ from_be_bytes w16 others → bytes ≡ others
-same_2_bytes bytes others len_bytes len_others small_bytes small_others same =
-    sym (u16_bytes-from_be_bytes bytes len_bytes small_bytes) ∙ ap u16_bytes same ∙ u16_bytes-from_be_bytes others len_others small_others
+length-u16_bytes = wide16.len
 
 pub length-u32_bytes : (n : ℕ) → length (u32_bytes n) ≡ 4
-unfolding u32_bytes
-length-u32_bytes n = refl
-
-pub AreBytes-u32_bytes : (n : ℕ) → AreBytes (u32_bytes n)
-unfolding u32_bytes
-AreBytes-u32_bytes n zero = byte_at-lt 3 n
-AreBytes-u32_bytes n (suc zero) = byte_at-lt 2 n
-AreBytes-u32_bytes n (suc (suc zero)) = byte_at-lt 1 n
-AreBytes-u32_bytes n (suc (suc (suc zero))) = byte_at-lt 0 n
-AreBytes-u32_bytes n (suc (suc (suc (suc i)))) = omega arith
-
--- the bytes of a number give it back
-pub from_be_bytes-u32_bytes : (n : ℕ) → n < 2 ^ 32 → from_be_bytes w32 (u32_bytes n) ≡ n
-unfolding u32_bytes
-from_be_bytes-u32_bytes n fits = from_be_bytes-to_be_bytes_4 n fits
-
--- 4 bytes are those of the number that they give
-pub u32_bytes-from_be_bytes : (bytes : List ℕ) → length bytes ≡ 4 → AreBytes bytes → u32_bytes (from_be_bytes w32 bytes) ≡ bytes
-unfolding u32_bytes
-u32_bytes-from_be_bytes bytes len small = be_bytes_4 bytes (from_be_bytes w32 bytes) len small refl
-
-pub u32_bytes-injective : (m n : ℕ) → m < 2 ^ 32 → n < 2 ^ 32 → u32_bytes m ≡ u32_bytes n → m ≡ n
-u32_bytes-injective m n fits_m fits_n same = sym (from_be_bytes-u32_bytes m fits_m) ∙ ap (from_be_bytes w32) same ∙ from_be_bytes-u32_bytes n fits_n
-
--- 4 bytes each that give the same number are the same
-pub same_4_bytes : (bytes others : List ℕ) → length bytes ≡ 4 → length others ≡ 4 → AreBytes bytes → AreBytes others
-    → from_be_bytes w32 bytes ≡ from_be_bytes w32 others → bytes ≡ others
-same_4_bytes bytes others len_bytes len_others small_bytes small_others same =
-    sym (u32_bytes-from_be_bytes bytes len_bytes small_bytes) ∙ ap u32_bytes same ∙ u32_bytes-from_be_bytes others len_others small_others
+length-u32_bytes = wide32.len
 
 pub length-u64_bytes : (n : ℕ) → length (u64_bytes n) ≡ 8
-unfolding u64_bytes
-length-u64_bytes n = refl
-
-pub AreBytes-u64_bytes : (n : ℕ) → AreBytes (u64_bytes n)
-unfolding u64_bytes
-AreBytes-u64_bytes n zero = byte_at-lt 7 n
-AreBytes-u64_bytes n (suc zero) = byte_at-lt 6 n
-AreBytes-u64_bytes n (suc (suc zero)) = byte_at-lt 5 n
-AreBytes-u64_bytes n (suc (suc (suc zero))) = byte_at-lt 4 n
-AreBytes-u64_bytes n (suc (suc (suc (suc zero)))) = byte_at-lt 3 n
-AreBytes-u64_bytes n (suc (suc (suc (suc (suc zero))))) = byte_at-lt 2 n
-AreBytes-u64_bytes n (suc (suc (suc (suc (suc (suc zero)))))) = byte_at-lt 1 n
-AreBytes-u64_bytes n (suc (suc (suc (suc (suc (suc (suc zero))))))) = byte_at-lt 0 n
-AreBytes-u64_bytes n (suc (suc (suc (suc (suc (suc (suc (suc i)))))))) = omega arith
-
--- the bytes of a number give it back
-pub from_be_bytes-u64_bytes : (n : ℕ) → n < 2 ^ 64 → from_be_bytes w64 (u64_bytes n) ≡ n
-unfolding u64_bytes
-from_be_bytes-u64_bytes n fits = from_be_bytes-to_be_bytes_8 n fits
-
--- 8 bytes are those of the number that they give
-pub u64_bytes-from_be_bytes : (bytes : List ℕ) → length bytes ≡ 8 → AreBytes bytes → u64_bytes (from_be_bytes w64 bytes) ≡ bytes
-unfolding u64_bytes
-u64_bytes-from_be_bytes bytes len small = be_bytes_8 bytes (from_be_bytes w64 bytes) len small refl
-
-pub u64_bytes-injective : (m n : ℕ) → m < 2 ^ 64 → n < 2 ^ 64 → u64_bytes m ≡ u64_bytes n → m ≡ n
-u64_bytes-injective m n fits_m fits_n same = sym (from_be_bytes-u64_bytes m fits_m) ∙ ap (from_be_bytes w64) same ∙ from_be_bytes-u64_bytes n fits_n
-
--- 8 bytes each that give the same number are the same
-pub same_8_bytes : (bytes others : List ℕ) → length bytes ≡ 8 → length others ≡ 8 → AreBytes bytes → AreBytes others
-    → from_be_bytes w64 bytes ≡ from_be_bytes w64 others → bytes ≡ others
-same_8_bytes bytes others len_bytes len_others small_bytes small_others same =
-    sym (u64_bytes-from_be_bytes bytes len_bytes small_bytes) ∙ ap u64_bytes same ∙ u64_bytes-from_be_bytes others len_others small_others
-
--- the front of bytes is bytes
-pub AreBytes-front : (front rest : List ℕ) → AreBytes (front ++ rest) → AreBytes front
-AreBytes-front [] rest small i = omega arith
-AreBytes-front (b ∷ front) rest small zero = small 0
-AreBytes-front (b ∷ front) rest small (suc i) = AreBytes-front front rest (λ j. small (suc j)) i
-
--- bytes begin with those of the number that the first 2 give
-pub u16_bytes-begin : (bytes : List ℕ) (n : ℕ) → AreBytes bytes → 2 ≤ length bytes → n ≡ from_be_bytes w16 (get_or bytes 0 0 ∷ get_or bytes 1 0 ∷ [])
-    → bytes ≡ u16_bytes n ++ drop 2 bytes
-u16_bytes-begin [] n small len is = absurd (omega arith)
-u16_bytes-begin (a ∷ []) n small len is = absurd (omega arith)
-u16_bytes-begin (a ∷ b ∷ rest) n small len is =
-    let given : u16_bytes n ≡ a ∷ b ∷ [] = ap u16_bytes is ∙ u16_bytes-from_be_bytes (a ∷ b ∷ []) refl (AreBytes-front (a ∷ b ∷ []) rest small) in
-    ap (λ front. front ++ rest) (sym given)
-
--- bytes that begin with a number's have it, and the rest behind it
-pub u16_bytes-first : (bytes : List ℕ) (n : ℕ) (rest : List ℕ) → n < 2 ^ 16 → bytes ≡ u16_bytes n ++ rest
-    → (2 ≤ length bytes) × (from_be_bytes w16 (get_or bytes 0 0 ∷ get_or bytes 1 0 ∷ []) ≡ n) × (drop 2 bytes ≡ rest)
-unfolding u16_bytes
-u16_bytes-first bytes n rest fits same =
-    rw same (omega arith, from_be_bytes-to_be_bytes_2 n fits, refl)
-
--- bytes begin with those of the number that the first 4 give
-pub u32_bytes-begin : (bytes : List ℕ) (n : ℕ) → AreBytes bytes → 4 ≤ length bytes → n ≡ from_be_bytes w32 (get_or bytes 0 0 ∷ get_or bytes 1 0 ∷ get_or bytes 2 0 ∷ get_or bytes 3 0 ∷ [])
-    → bytes ≡ u32_bytes n ++ drop 4 bytes
-u32_bytes-begin [] n small len is = absurd (omega arith)
-u32_bytes-begin (a ∷ []) n small len is = absurd (omega arith)
-u32_bytes-begin (a ∷ b ∷ []) n small len is = absurd (omega arith)
-u32_bytes-begin (a ∷ b ∷ c ∷ []) n small len is = absurd (omega arith)
-u32_bytes-begin (a ∷ b ∷ c ∷ d ∷ rest) n small len is =
-    let given : u32_bytes n ≡ a ∷ b ∷ c ∷ d ∷ [] = ap u32_bytes is ∙ u32_bytes-from_be_bytes (a ∷ b ∷ c ∷ d ∷ []) refl (AreBytes-front (a ∷ b ∷ c ∷ d ∷ []) rest small) in
-    ap (λ front. front ++ rest) (sym given)
-
--- bytes that begin with a number's have it, and the rest behind it
-pub u32_bytes-first : (bytes : List ℕ) (n : ℕ) (rest : List ℕ) → n < 2 ^ 32 → bytes ≡ u32_bytes n ++ rest
-    → (4 ≤ length bytes) × (from_be_bytes w32 (get_or bytes 0 0 ∷ get_or bytes 1 0 ∷ get_or bytes 2 0 ∷ get_or bytes 3 0 ∷ []) ≡ n) × (drop 4 bytes ≡ rest)
-unfolding u32_bytes
-u32_bytes-first bytes n rest fits same =
-    rw same (omega arith, from_be_bytes-to_be_bytes_4 n fits, refl)
-
--- bytes begin with those of the number that the first 8 give
-pub u64_bytes-begin : (bytes : List ℕ) (n : ℕ) → AreBytes bytes → 8 ≤ length bytes → n ≡ from_be_bytes w64 (get_or bytes 0 0 ∷ get_or bytes 1 0 ∷ get_or bytes 2 0 ∷ get_or bytes 3 0 ∷ get_or bytes 4 0 ∷ get_or bytes 5 0 ∷ get_or bytes 6 0 ∷ get_or bytes 7 0 ∷ [])
-    → bytes ≡ u64_bytes n ++ drop 8 bytes
-u64_bytes-begin [] n small len is = absurd (omega arith)
-u64_bytes-begin (a ∷ []) n small len is = absurd (omega arith)
-u64_bytes-begin (a ∷ b ∷ []) n small len is = absurd (omega arith)
-u64_bytes-begin (a ∷ b ∷ c ∷ []) n small len is = absurd (omega arith)
-u64_bytes-begin (a ∷ b ∷ c ∷ d ∷ []) n small len is = absurd (omega arith)
-u64_bytes-begin (a ∷ b ∷ c ∷ d ∷ e ∷ []) n small len is = absurd (omega arith)
-u64_bytes-begin (a ∷ b ∷ c ∷ d ∷ e ∷ f ∷ []) n small len is = absurd (omega arith)
-u64_bytes-begin (a ∷ b ∷ c ∷ d ∷ e ∷ f ∷ g ∷ []) n small len is = absurd (omega arith)
-u64_bytes-begin (a ∷ b ∷ c ∷ d ∷ e ∷ f ∷ g ∷ h ∷ rest) n small len is =
-    let given : u64_bytes n ≡ a ∷ b ∷ c ∷ d ∷ e ∷ f ∷ g ∷ h ∷ [] = ap u64_bytes is ∙ u64_bytes-from_be_bytes (a ∷ b ∷ c ∷ d ∷ e ∷ f ∷ g ∷ h ∷ []) refl (AreBytes-front (a ∷ b ∷ c ∷ d ∷ e ∷ f ∷ g ∷ h ∷ []) rest small) in
-    ap (λ front. front ++ rest) (sym given)
-
--- bytes that begin with a number's have it, and the rest behind it
-pub u64_bytes-first : (bytes : List ℕ) (n : ℕ) (rest : List ℕ) → n < 2 ^ 64 → bytes ≡ u64_bytes n ++ rest
-    → (8 ≤ length bytes) × (from_be_bytes w64 (get_or bytes 0 0 ∷ get_or bytes 1 0 ∷ get_or bytes 2 0 ∷ get_or bytes 3 0 ∷ get_or bytes 4 0 ∷ get_or bytes 5 0 ∷ get_or bytes 6 0 ∷ get_or bytes 7 0 ∷ []) ≡ n) × (drop 8 bytes ≡ rest)
-unfolding u64_bytes
-u64_bytes-first bytes n rest fits same =
-    rw same (omega arith, from_be_bytes-to_be_bytes_8 n fits, refl)
+length-u64_bytes = wide64.len

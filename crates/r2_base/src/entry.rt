@@ -1,3 +1,6 @@
+ghost use Rattle.std.specs.Prelude.{◌≡◌, ◌↔◌, IsTrue};
+ghost use Rattle.r2_base.specs.Entry.{is_no_rid, is_request, no_rid};
+
 use crate::Rid;
 
 /// What an entry of the log does.
@@ -22,4 +25,22 @@ pub struct Entry {
     pub rid: Rid,
     /// The number of the member that answers the request.
     pub replier: u8,
+}
+
+/// Whether an entry of this kind has a request.
+pub fn is_request(kind: Kind) -> bool
+    ensures { result ≡ is_request kind }
+{
+    match kind {
+        Kind::Blank => false,
+        Kind::Write | Kind::Read => true,
+    }
+}
+
+/// Whether all of a request id is zero, as that of a blank entry.
+pub fn is_no_rid(rid: &Rid) -> bool
+    ensures zeros { result ≡ is_no_rid rid.now }
+    ensures none { IsTrue result ↔ (rid.now ≡ no_rid) }
+{
+    rid.client.ip == 0 && rid.client.port == 0 && rid.id == 0
 }

@@ -2,6 +2,7 @@ ghost use Rattle.std.specs.Prelude.{◌≡◌, ℕ, ◌^◌, ◌<◌, ◌≤◌,
 ghost use Rattle.r2_base.specs.Numbers.{u16_bytes, u32_bytes, u64_bytes};
 
 use crate::NoMemory;
+use byteorder::{BigEndian, ByteOrder};
 
 /// Appends the number's two bytes.
 #[tactic(auto, unfolding(crate::specs::Numbers::u16_bytes))]
@@ -9,7 +10,9 @@ pub fn push_u16(out: &mut Vec<u8>, n: u16) -> Result<(), NoMemory>
     ensures ok { OnOk result (out.new.items ≡ out.old.items ++ u16_bytes n) }
     ensures err { OnErr result (out.new.items ≡ out.old.items) }
 {
-    out.extend_from_slice(&n.to_be_bytes())?;
+    let mut bytes = [0; 2];
+    BigEndian::write_u16(&mut bytes, n);
+    out.extend_from_slice(&bytes)?;
     Ok(())
 }
 
@@ -22,7 +25,7 @@ pub fn split_u16(bytes: &[u8]) -> Option<(u16, &[u8])>
     if bytes.len() < 2 {
         return None;
     }
-    let n = u16::from_be_bytes([bytes[0], bytes[1]]);
+    let n = BigEndian::read_u16(bytes);
     Some((n, &bytes[2..]))
 }
 
@@ -32,7 +35,9 @@ pub fn push_u32(out: &mut Vec<u8>, n: u32) -> Result<(), NoMemory>
     ensures ok { OnOk result (out.new.items ≡ out.old.items ++ u32_bytes n) }
     ensures err { OnErr result (out.new.items ≡ out.old.items) }
 {
-    out.extend_from_slice(&n.to_be_bytes())?;
+    let mut bytes = [0; 4];
+    BigEndian::write_u32(&mut bytes, n);
+    out.extend_from_slice(&bytes)?;
     Ok(())
 }
 
@@ -45,7 +50,7 @@ pub fn split_u32(bytes: &[u8]) -> Option<(u32, &[u8])>
     if bytes.len() < 4 {
         return None;
     }
-    let n = u32::from_be_bytes([bytes[0], bytes[1], bytes[2], bytes[3]]);
+    let n = BigEndian::read_u32(bytes);
     Some((n, &bytes[4..]))
 }
 
@@ -55,7 +60,9 @@ pub fn push_u64(out: &mut Vec<u8>, n: u64) -> Result<(), NoMemory>
     ensures ok { OnOk result (out.new.items ≡ out.old.items ++ u64_bytes n) }
     ensures err { OnErr result (out.new.items ≡ out.old.items) }
 {
-    out.extend_from_slice(&n.to_be_bytes())?;
+    let mut bytes = [0; 8];
+    BigEndian::write_u64(&mut bytes, n);
+    out.extend_from_slice(&bytes)?;
     Ok(())
 }
 
@@ -68,9 +75,7 @@ pub fn split_u64(bytes: &[u8]) -> Option<(u64, &[u8])>
     if bytes.len() < 8 {
         return None;
     }
-    let n = u64::from_be_bytes([
-        bytes[0], bytes[1], bytes[2], bytes[3], bytes[4], bytes[5], bytes[6], bytes[7],
-    ]);
+    let n = BigEndian::read_u64(bytes);
     Some((n, &bytes[8..]))
 }
 

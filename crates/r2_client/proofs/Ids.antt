@@ -1,18 +1,18 @@
 -- Each call has the next id.
 use Rattle.std.proofs.Common.{◌≡◌, ◌≤◌, ◌<◌, ◌+◌, ℕ, Bool, if◌then◌else◌, List, [], ◌∷◌, length, Option, Some, None, refl, ap, subst, arith}
 use Rattle.std.specs.Prelude.{is_some, nat_le, nat_lt}
-use Rattle.std.specs.List.{range_with_len}
 use Rattle.r2_base.specs.declared.datagram.Datagram.{Datagram}
 use Rattle.r2_base.specs.declared.event.Event.{Event}
+use Rattle.r2_base.specs.Limits.{id_limit, most_body}
 use Rattle.r2_base.specs.declared.event.Event.TheVariants.{Datagram as DatagramEvent, Tick, Quiet}
 use Rattle.r2_client.specs.declared.begin_fault.BeginFault.{BeginFault}
 use Rattle.r2_client.specs.declared.begin_fault.BeginFault.TheVariants.{IdsUsed, Outstanding, TooLong}
 use Rattle.r2_client.specs.declared.call_end.CallEnd.TheVariants.{TimedOut}
 use Rattle.r2_client.specs.declared.open_call.OpenCall.{OpenCall}
-use Rattle.r2_client.specs.Laws.{IdsAreInOrder}
+use Rattle.r2_client.specs.Laws.{AreInOrder, IdsAreInOrder}
 use Rattle.r2_client.specs.Runs.{Input, Asks, Comes, asked, ids_of, with_id}
-use Rattle.r2_client.specs.Session.{Stepped, began, ended, most_asked, most_calls, received, refusal, sent_again, stepped, ticked, ticked_by}
-use Rattle.r2_client.specs.State.{SessionState, new_session}
+use Rattle.r2_client.specs.Session.{Stepped, began, ended, received, refusal, sent_again, stepped, ticked, ticked_by}
+use Rattle.r2_client.specs.State.{SessionState, session_from}
 use Rattle.r2_client.proofs.Outcomes.{branch, outcome}
 
 -- the next id is this one
@@ -42,37 +42,30 @@ stepped_next s Quiet = refl
 
 -- a call that isn't refused has an id left
 id_left : (used long : Bool) (next : ℕ)
-    → (if used then Some Outstanding else (if long then Some TooLong else (if nat_le most_calls next then Some IdsUsed else None))) ≡ None
-    → next < most_calls
+    → (if used then Some Outstanding else (if long then Some TooLong else (if nat_le id_limit next then Some IdsUsed else None))) ≡ None
+    → next < id_limit
 id_left used long next e = grind (arith, e)
 
--- the ids from a next one on
-record AreFrom (next : ℕ) (ids : List ℕ) : Type 0 where
-  pub order : ids ≡ range_with_len next (length ids)
-  pub most : next + length ids ≤ most_calls
-
-one_more : (next : ℕ) (ids : List ℕ) → AreFrom (next + 1) ids → AreFrom next (next ∷ ids)
+one_more : (next : ℕ) (ids : List ℕ) → AreInOrder (next + 1) ids → AreInOrder next (next ∷ ids)
 one_more next ids are = record { order = ap (λ (rest : List ℕ). next ∷ rest) are.order; most = omega (arith, are.most) }
 
 -- a request is refused and uses no id, or uses the next
 by_refusal : (s : SessionState) (policy : ℕ) (body : List ℕ) (more : List Input) (o : Option BeginFault)
-    → (o ≡ None → AreFrom (s.next + 1) (ids_of (began s policy body) more)) → AreFrom s.next (ids_of s more)
-    → AreFrom s.next (with_id s.next o (ids_of (asked s policy body o) more))
+    → (o ≡ None → AreInOrder (s.next + 1) (ids_of (began s policy body) more)) → AreInOrder s.next (ids_of s more)
+    → AreInOrder s.next (with_id s.next o (ids_of (asked s policy body o) more))
 by_refusal s policy body more None begins refused = one_more s.next _ (begins refl)
 by_refusal s policy body more (Some fault) begins refused = refused
 
-from : (s : SessionState) (inputs : List Input) → s.next ≤ most_calls → AreFrom s.next (ids_of s inputs)
+from : (s : SessionState) (inputs : List Input) → s.next ≤ id_limit → AreInOrder s.next (ids_of s inputs)
 unfolding ids_of began
 from s [] few = record { order = refl; most = omega (arith, few) }
 from s (Asks policy body ∷ more) few =
     by_refusal s policy body more (refusal s body)
-    (λ e. let left = id_left (is_some s.open_call) (nat_lt most_asked (length body)) s.next e in from (began s policy body) more (omega (arith, left)))
+    (λ e. let left = id_left (is_some s.open_call) (nat_lt most_body (length body)) s.next e in from (began s policy body) more (omega (arith, left)))
     (from s more few)
 from s (Comes event ∷ more) few =
     let same = stepped_next s event in
-    subst (λ (next : ℕ). AreFrom next (ids_of (stepped s event).session more)) same (from (stepped s event).session more (rw same few))
+    subst (λ (next : ℕ). AreInOrder next (ids_of (stepped s event).session more)) same (from (stepped s event).session more (rw same few))
 
 pub in_order : IdsAreInOrder
-in_order me targets wait tries inputs =
-    let are = from (new_session me targets wait tries) inputs (omega arith) in
-    record { order = are.order; most = omega (arith, are.most) }
+in_order me targets wait tries first inputs few = from (session_from me targets wait tries first) inputs few

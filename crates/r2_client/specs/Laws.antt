@@ -4,15 +4,18 @@ use Rattle.std.specs.List.{range_with_len}
 use Rattle.r2_base.specs.declared.addr.Addr.{Addr}
 use Rattle.r2_base.specs.declared.datagram.Datagram.{Datagram}
 use Rattle.r2_base.specs.declared.event.Event.{Event}
+use Rattle.r2_base.specs.Limits.{id_limit}
 use Rattle.r2_client.specs.declared.call_end.CallEnd.TheVariants.{TimedOut}
 use Rattle.r2_header.specs.declared.header.Header.{Header}
 use Rattle.r2_header.specs.declared.packet.Packet.TheVariants.{ReqRdy}
 use Rattle.r2_header.specs.Header.{IsValid}
+use Rattle.r2_header.specs.Policy.{jbsq}
+use Rattle.r2_frag.specs.Parts.{piece_size}
 use Rattle.r2_client.specs.declared.open_call.OpenCall.{OpenCall}
 use Rattle.r2_client.specs.Sendings.{later_parts_to}
 use Rattle.r2_client.specs.Runs.{EndNothing, Input, after, ids_of, ticks_among}
-use Rattle.r2_client.specs.Session.{began, most_calls, received, ticked}
-use Rattle.r2_client.specs.State.{SessionState, new_session}
+use Rattle.r2_client.specs.Session.{began, received, ticked}
+use Rattle.r2_client.specs.State.{SessionState, session_from}
 
 -- the next tick behind so many ends the call exactly where it is the last of them, and a datagram never times it out
 pub record TimesOutAt (last ticks : ℕ) (s : SessionState) : Type 0 where
@@ -27,21 +30,21 @@ TimesOutAtItsTick =
     → 1 ≤ s.wait → 1 ≤ s.tries → EndNothing (began s policy body) events
     → TimesOutAt (s.wait * s.tries) (ticks_among events) (after (began s policy body) events)
 
--- the ids are 0, 1, 2 and so on, each once, and no more than there are
-pub record AreInOrder (ids : List ℕ) : Type 0 where
-  pub order : ids ≡ range_with_len 0 (length ids)
-  pub most : length ids ≤ most_calls
+-- the ids are a first one and those after it, each once, and none above the greatest
+pub record AreInOrder (first : ℕ) (ids : List ℕ) : Type 0 where
+  pub order : ids ≡ range_with_len first (length ids)
+  pub most : first + length ids ≤ id_limit
 
 -- so they are for whatever a session is asked and whatever comes
 abbrev pub IdsAreInOrder : Type 0
 IdsAreInOrder =
-    (me : Addr) (targets : List Addr) (wait tries : ℕ) (inputs : List Input)
-    → AreInOrder (ids_of (new_session me targets wait tries) inputs)
+    (me : Addr) (targets : List Addr) (wait tries first : ℕ) (inputs : List Input)
+    → first ≤ id_limit → AreInOrder first (ids_of (session_from me targets wait tries first) inputs)
 
--- a request of at most 1,024 bytes is one part, so that nothing is sent at a call for its others
+-- a request that fits one part has no others, so that nothing is sent at a call for its others
 abbrev pub OnePartHasNoOthers : Type 0
-OnePartHasNoOthers = (me : Addr) (call : OpenCall) (to : Addr) → length call.body ≤ 1024 → later_parts_to me call to ≡ []
+OnePartHasNoOthers = (me : Addr) (call : OpenCall) (to : Addr) → length call.body ≤ piece_size → later_parts_to me call to ≡ []
 
--- only under policies 0 and 1 can parts be called for
+-- only under FIXED and JBSQ can parts be called for
 abbrev pub OnlyPlainPoliciesCall : Type 0
-OnlyPlainPoliciesCall = (h : Header) → IsValid h → h.packet ≡ ReqRdy → h.policy ≤ 1
+OnlyPlainPoliciesCall = (h : Header) → IsValid h → h.packet ≡ ReqRdy → h.policy ≤ jbsq

@@ -3,6 +3,7 @@ use Rattle.std.specs.Prelude.{false, nat_le, if◌then◌else◌, List, take, dr
 use Rattle.std.specs.List.{flat_map}
 use Rattle.r2_base.specs.declared.addr.Addr.{Addr}
 use Rattle.r2_base.specs.declared.datagram.Datagram.{Datagram}
+use Rattle.r2_header.specs.Policy.{jbsq}
 use Rattle.r2_frag.specs.declared.class.Class.TheVariants.{Request}
 use Rattle.r2_frag.specs.declared.part_spec.PartSpec.{PartSpec}
 use Rattle.r2_frag.specs.Parts.{parts_of}
@@ -30,7 +31,7 @@ first_part_to me call to = take 1 (request_to me call to)
 unfoldable pub later_parts_to : Addr → OpenCall → Addr → List Datagram
 later_parts_to me call to = drop 1 (request_to me call to)
 
--- a request is sent: under policy 0 or 1 the first part to the first target, else all parts to each target in turn
+-- a request is sent: under FIXED or JBSQ the first part to the first target, else all parts to each target in turn
 unfoldable pub sending : Addr → List Addr → OpenCall → List Datagram
 sending me targets call =
-    if nat_le call.policy 1 then flat_map (first_part_to me call) (take 1 targets) else flat_map (request_to me call) targets
+    if nat_le call.policy jbsq then flat_map (first_part_to me call) (take 1 targets) else flat_map (request_to me call) targets

@@ -1,8 +1,9 @@
 -- A session's calls and events: what it becomes, what it sends, and how its call ends.
-use Rattle.std.specs.Prelude.{ℕ, ◌+◌, ◌==◌, ◌&&◌, Bool, nat_le, nat_lt, is_some, if◌then◌else◌, List, [], length, drop, Option, Some, None, Result, Ok, Err}
+use Rattle.std.specs.Prelude.{ℕ, ◌+◌, ◌==◌, ◌&&◌, Bool, true, false, nat_le, nat_lt, is_some, if◌then◌else◌, List, [], length, drop, Option, Some, None, Result, Ok, Err}
 use Rattle.r2_base.specs.declared.datagram.Datagram.{Datagram}
 use Rattle.r2_base.specs.declared.event.Event.{Event}
 use Rattle.r2_base.specs.declared.event.Event.TheVariants.{Datagram as DatagramEvent, Tick, Quiet}
+use Rattle.r2_base.specs.Limits.{id_limit, most_body}
 use Rattle.r2_header.specs.declared.header.Header.{Header}
 use Rattle.r2_header.specs.declared.header_fault.HeaderFault.{HeaderFault}
 use Rattle.r2_header.specs.declared.packet.Packet.{Packet}
@@ -22,20 +23,12 @@ use Rattle.r2_client.specs.declared.open_call.OpenCall.{OpenCall}
 use Rattle.r2_client.specs.Sendings.{later_parts_to, sending}
 use Rattle.r2_client.specs.State.{SessionState}
 
--- the most bytes that the body of a request may have
-abbrev pub most_asked : ℕ
-most_asked = 61440
-
--- how many request ids there are
-abbrev pub most_calls : ℕ
-most_calls = 65536
-
 -- why a call with this body can't begin: another is open, or the body is too long, or each id has been used
 abbrev pub refusal : SessionState → List ℕ → Option BeginFault
 refusal s body =
     if is_some s.open_call then Some Outstanding
-    else (if nat_lt most_asked (length body) then Some TooLong
-    else (if nat_le most_calls s.next then Some IdsUsed else None))
+    else (if nat_lt most_body (length body) then Some TooLong
+    else (if nat_le id_limit s.next then Some IdsUsed else None))
 
 -- a call as it begins, with the next id
 abbrev pub new_call : SessionState → ℕ → List ℕ → OpenCall
@@ -89,6 +82,13 @@ by_packet s call d h payload ReplyPacket = reply_part s h payload (key_at d.from
 by_packet s call d h payload Reject = ended s Rejected
 by_packet s call d h payload _ = unchanged s
 
+-- whether a session takes packets of this type
+abbrev pub is_taken : Packet → Bool
+is_taken ReqRdy = true
+is_taken ReplyPacket = true
+is_taken Reject = true
+is_taken _ = false
+
 -- whether a packet is for this call
 abbrev pub is_for : OpenCall → Header → Bool
 is_for call h = (h.id == call.id) && (h.policy == call.policy)
@@ -123,6 +123,18 @@ ticked_by s None = unchanged s
 -- a tick comes
 unfoldable pub ticked : SessionState → Stepped
 ticked s = ticked_by s s.open_call
+
+-- whether bytes that read so are a packet of the open call at which a session does something: a call for the other parts of
+-- the request, a part of the reply or a rejection
+abbrev pub concerns : Option OpenCall → Result (Header × ℕ) HeaderFault → Bool
+concerns (Some call) (Ok (h, size)) = is_for call h && is_taken h.packet
+concerns (Some call) (Err fault) = false
+concerns None read = false
+
+-- whether the next tick sends the request of the open call again
+abbrev pub sends_again : SessionState → Option OpenCall → Bool
+sends_again s (Some call) = nat_le s.wait (call.ticks + 1) && nat_lt call.sendings s.tries
+sends_again s None = false
 
 -- what an event comes to
 abbrev pub stepped : SessionState → Event → Stepped

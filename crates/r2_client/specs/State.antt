@@ -15,7 +15,11 @@ pub record SessionState : Type 0 where
   pub open_call : Option OpenCall
   pub unfinished : List Unfinished
 
+-- a session that made no call yet, and whose first request will have this id
+abbrev pub session_from : Addr → List Addr → ℕ → ℕ → ℕ → SessionState
+session_from me targets wait tries first =
+    record { me = me; targets = targets; wait = wait; tries = tries; next = first; open_call = None; unfinished = [] }
+
 -- a session that made no call yet
 abbrev pub new_session : Addr → List Addr → ℕ → ℕ → SessionState
-new_session me targets wait tries =
-    record { me = me; targets = targets; wait = wait; tries = tries; next = 0; open_call = None; unfinished = [] }
+new_session me targets wait tries = session_from me targets wait tries 0

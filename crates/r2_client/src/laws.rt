@@ -7,7 +7,7 @@ pub fn a_call_times_out_at_its_tick()
     ensures { TimesOutAtItsTick }
 {}
 
-/// The ids of a session's calls are 0, 1, 2 and so on, each once.
+/// The ids of a session's calls are its first one and those after it, each once.
 pub fn ids_are_in_order()
     ensures { IdsAreInOrder }
 {}

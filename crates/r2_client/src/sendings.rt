@@ -6,6 +6,7 @@ ghost use Rattle.r2_client.specs.Sound.{IsRequest};
 use crate::open_call::OpenCall;
 use r2_base::{Addr, Datagrams, NoMemory, Rid};
 use r2_frag::{Class, Key, PartSpec, parts};
+use r2_header::policy::JBSQ;
 use std::alloc::Global;
 
 /// The parts of a call's request, in datagrams to one address.
@@ -107,7 +108,7 @@ pub(crate) fn sending(
     requires { IsRequest call.now }
     ensures { IfOk result (λ sends. sends ≡ sending me targets.now call.now) }
 {
-    if call.policy <= 1 {
+    if call.policy <= JBSQ {
         send_to_first(alloc, me, targets, call)
     } else {
         send_to_each(alloc, me, targets, call)

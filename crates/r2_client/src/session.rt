@@ -1,5 +1,7 @@
-ghost use Rattle.std.specs.Prelude.{◌≡◌, ◌≤◌, None, IfErr, IfOk, MatchOption, OnErr, OnOk, Err, length};
+ghost use Rattle.std.specs.Prelude.{◌≡◌, ◌≤◌, None, IfErr, IfOk, MatchOption, OnErr, OnOk, Ok, Err, false, length};
 ghost use Rattle.r2_header.specs.Header.{IsValid};
+ghost use Rattle.r2_header.specs.Policy.{replicated_read};
+ghost use Rattle.r2_header.specs.Reading.{header_at};
 ghost use Rattle.r2_frag.specs.Keys.{key_at};
 ghost use Rattle.r2_client.specs.Session.{is_for};
 ghost use Rattle.r2_client.specs.declared.begin_fault.BeginFault.{BeginFault};
@@ -8,17 +10,11 @@ ghost use Rattle.r2_client.specs.declared.begin_fault.BeginFault.TheVariants.{Me
 use crate::open_call::OpenCall;
 use crate::sendings::{later_parts_to, sending};
 use crate::{BeginFault, CallEnd, ClientStep};
-use r2_base::{Addr, Addrs, Datagram, Datagrams, NoMemory};
+use r2_base::{Addr, Addrs, Datagram, Datagrams, ID_LIMIT, MOST_BODY, NoMemory};
 use r2_frag::{Added, Assembly, key_of};
 use r2_header::{Header, Packet, read};
 use std::alloc::Global;
 use std::marker::Model;
-
-/// The most bytes that the body of a request may have.
-const MOST_ASKED: usize = 61_440;
-
-/// How many request ids there are.
-const MOST_CALLS: u32 = 65_536;
 
 /// A client of R2P2 services, which makes one call at a time (R2P2, on the client's side of the protocol).
 ///
@@ -33,7 +29,7 @@ pub struct Session {
     wait: u32,
     tries: u32,
     /// The id of the next request.
-    next: u32,
+    next: u64,
     open_call: Option<OpenCall>,
     unfinished: Assembly,
 }
@@ -67,11 +63,11 @@ impl Model for Session {
 
 impl Session {
     ghost use Rattle.r2_client.specs.Sendings.{sending};
-    ghost use Rattle.r2_client.specs.Session.{began, ended, new_call, received, refusal, reply_part, ticked};
+    ghost use Rattle.r2_client.specs.Session.{began, concerns, ended, new_call, received, refusal, reply_part, sends_again, ticked, unchanged};
     ghost use Rattle.r2_client.specs.Sound.{IsShortEnd};
-    ghost use Rattle.r2_client.specs.State.{new_session};
+    ghost use Rattle.r2_client.specs.State.{new_session, session_from};
 
-    /// A session at `me` that made no call yet, and takes no memory.
+    /// A session at `me` that made no call yet, whose first request will have the id 0. It takes no memory.
     ///
     /// It sends to these 1 to 7 addresses, waits for `wait` ticks, at least one, before it sends a request again, and sends
     /// it `tries` times at most, at least once.
@@ -82,13 +78,32 @@ impl Session {
         requires tries { 1 ≤ tries }
         ensures { result ≡ new_session me targets wait tries }
     {
+        Session::starting(alloc, me, targets, wait, tries, 0)
+    }
+
+    /// As `new`, but the first request will have the id `first`, so that a client that comes again can go on where its ids
+    /// ended.
+    pub fn starting(
+        alloc: Global,
+        me: Addr,
+        targets: Addrs,
+        wait: u32,
+        tries: u32,
+        first: u16,
+    ) -> Session
+        requires some { 1 ≤ length targets }
+        requires most { length targets ≤ 7 }
+        requires wait { 1 ≤ wait }
+        requires tries { 1 ≤ tries }
+        ensures { result ≡ session_from me targets wait tries first }
+    {
         Session {
             alloc,
             me,
             targets,
             wait,
             tries,
-            next: 0,
+            next: u64::from(first),
             open_call: None,
             unfinished: Assembly::new(alloc),
         }
@@ -96,16 +111,16 @@ impl Session {
 
     /// Begins a call, and gives the datagrams to be sent, in their order.
     ///
-    /// The policy is 0 FIXED, 1 JBSQ, 2 REPLICATED or 3 REPLICATED_READ. The request ids are 0, 1, 2 and so on. A refused
-    /// call uses no id.
+    /// The policy is 0 FIXED, 1 JBSQ, 2 REPLICATED or 3 REPLICATED_READ. The ids of the requests are the first one and those
+    /// after it. A refused call uses no id.
     ///
     /// # Errors
     ///
     /// The first of these that holds: `Outstanding` while a call is open, `TooLong` for a body of more than 61,440 bytes,
-    /// `IdsUsed` behind 65,536 calls, `Memory` where memory runs out.
+    /// `IdsUsed` where the greatest id, 65,535, was used, `Memory` where memory runs out.
     #[tactic(auto, unfolding(crate::specs::Session::began))]
     pub fn begin(&mut self, policy: u8, body: &[u8]) -> Result<Datagrams, BeginFault>
-        requires { policy ≤ 3 }
+        requires { policy ≤ replicated_read }
         ensures cause { MatchOption (refusal self.old body.now) (IfErr result (λ fault. fault ≡ Memory)) (λ (fault : BeginFault). result ≡ Err fault) }
         ensures session { OnOk result (self.new ≡ began self.old policy body.now) }
         ensures sends { IfOk result (λ sends. sends ≡ sending self.old.me self.old.targets (new_call self.old policy body.now)) }
@@ -128,10 +143,10 @@ impl Session {
         if self.open_call.is_some() {
             return Some(BeginFault::Outstanding);
         }
-        if body.len() > MOST_ASKED {
+        if body.len() > MOST_BODY {
             return Some(BeginFault::TooLong);
         }
-        if self.next >= MOST_CALLS {
+        if self.next >= ID_LIMIT {
             return Some(BeginFault::IdsUsed);
         }
         None
@@ -151,6 +166,10 @@ impl Session {
         ensures step { IfOk result (λ step. step ≡ (received self.old d.now).step) }
         ensures short { IfOk result (λ step. IsShortEnd step.end) }
         ensures err { OnErr result (self.new ≡ self.old) }
+
+        // What doesn't concern the open call takes no memory.
+        ensures free { concerns self.old.open_call (header_at d.now.bytes) ≡ false → result ≡ Ok (unchanged self.old).step }
+        ensures kept { concerns self.old.open_call (header_at d.now.bytes) ≡ false → self.new ≡ self.old }
     {
         let Some(call) = &self.open_call else {
             return Ok(ClientStep::nothing(self.alloc));
@@ -222,6 +241,9 @@ impl Session {
         ensures step { IfOk result (λ step. step ≡ (ticked self.old).step) }
         ensures short { IfOk result (λ step. IsShortEnd step.end) }
         ensures err { OnErr result (self.new ≡ self.old) }
+
+        // Only a request that is sent again takes memory.
+        ensures free { sends_again self.old self.old.open_call ≡ false → result ≡ Ok (ticked self.old).step }
     {
         let Some(call) = &mut self.open_call else {
             return Ok(ClientStep::nothing(self.alloc));

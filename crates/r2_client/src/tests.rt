@@ -151,6 +151,12 @@ fn session(alloc: Global, targets: [Addr; 2]) -> Result<Session, Fail> {
     Ok(Session::new(alloc, CLIENT, targets, 1, 2))
 }
 
+/// A session to one server that sends three times at most, and whose first id is the greatest.
+fn last_call(alloc: Global) -> Result<Session, Fail> {
+    let targets = Addrs::from_vec([SERVER].to_vec(alloc)?);
+    Ok(Session::starting(alloc, CLIENT, targets, 1, 3, u16::MAX))
+}
+
 /// The first line that doesn't hold.
 fn first_wrong(alloc: Global, targets: [Addr; 2], lines: &[Line]) -> Result<Option<usize>, Fail>
     requires { length lines.now < 2 ^ 32 }
@@ -271,6 +277,9 @@ fn each_member_gets_all_parts_and_one_may_reject(rt: HostRuntime) -> Result<(), 
     let parts =
         b"\x52\x08\x02\x80\x00\x00\x00\x02P\x00\x01a\x52\x08\x32\x40\x00\x00\x00\x01.\x52\x08\x02\x80\x00\x00\x00\x02P\x00\x01a\x52\x08\x32\x40\x00\x00\x00\x01.";
     let reject = Input::Packet(OTHER, b"\x52\x08\x52\xC0\x00\x00\x00\x01");
+    let get =
+        b"\x52\x08\x03\xC0\x00\x01\x00\x01G\x00\x01a\x52\x08\x03\xC0\x00\x01\x00\x01G\x00\x01a";
+    let reject_read = Input::Packet(SERVER, b"\x52\x08\x53\xC0\x00\x01\x00\x01");
     let lines = [
         Line {
             input: Input::Put(2, 1025),
@@ -284,13 +293,41 @@ fn each_member_gets_all_parts_and_one_may_reject(rt: HostRuntime) -> Result<(), 
             bytes: b"",
             fate: Fate::Rejected,
         },
+        Line {
+            input: Input::Get(3),
+            to: &[SERVER, OTHER],
+            bytes: get,
+            fate: Fate::GoesOn,
+        },
+        Line {
+            input: reject_read,
+            to: &[],
+            bytes: b"",
+            fate: Fate::Rejected,
+        },
     ];
     assert_eq!(rt; first_wrong(rt.alloc(), [SERVER, OTHER], &lines)?, None);
     Ok(())
 }
 
 #[test]
-fn behind_65536_calls_the_ids_are_used(rt: HostRuntime) -> Result<(), Fail> {
+fn a_call_is_sent_three_times_and_uses_the_last_id(rt: HostRuntime) -> Result<(), Fail> {
+    let alloc = rt.alloc();
+    let get = b"\x52\x08\x00\xC0\xFF\xFF\x00\x01G\x00\x01a";
+    let mut session = last_call(alloc)?;
+    let first = session.begin(0, GET)?;
+    assert!(rt; are_sent(alloc, &first, &[SERVER], get)?);
+    for _ in 0..2 {
+        let again = session.on_tick()?;
+        assert!(rt; are_sent(alloc, &again.sends, &[SERVER], get)?);
+    }
+    assert_eq!(rt; session.on_tick()?.end, Some(CallEnd::TimedOut));
+    assert_eq!(rt; session.begin(0, GET), Err(BeginFault::IdsUsed));
+    Ok(())
+}
+
+#[test]
+fn after_65536_calls_the_ids_are_used(rt: HostRuntime) -> Result<(), Fail> {
     let alloc = rt.alloc();
     let mut session = session(alloc, [SERVER, OTHER])?;
     'calls: for id in 0..=u16::MAX {

@@ -1,12 +1,11 @@
 -- No more than 256 messages are unfinished.
-use Rattle.std.proofs.Common.{◌≡◌, ◌≤◌, ltb, length, List, [], ◌∷◌, inl, inr, Result, Ok, Err, IfOk, OnErr, refl, ap, arith}
+use Rattle.std.proofs.Common.{◌≡◌, ◌≤◌, ltb, length, List, [], ◌∷◌, inl, inr, refl, arith}
 use Rattle.std.proofs.lemmas.Bool.{cases_Bool, ltb-true}
 use Rattle.std.proofs.lemmas.List.{length-append}
-use Rattle.r2_base.specs.declared.fault.NoMemory.{NoMemory}
 use Rattle.r2_frag.specs.declared.added.Added.{Added}
 use Rattle.r2_frag.specs.declared.key.Key.{Key}
 use Rattle.r2_frag.specs.declared.unfinished.Unfinished.{Unfinished}
-use Rattle.r2_frag.specs.Assembly.{begin, go_on, is_begun, is_of, message_of, put, with_part, without}
+use Rattle.r2_frag.specs.Assembly.{begin, go_on, is_begun, is_of, message_under, put, with_part, without}
 use Rattle.r2_frag.specs.Laws.{MostUnfinished}
 use Rattle.r2_frag.proofs.Outcomes.{outcome}
 
@@ -49,15 +48,8 @@ length-go_on next messages h =
 -- adding a part leaves no more than 256
 pub most_unfinished_stay : MostUnfinished
 most_unfinished_stay messages key h payload most =
-    let next : Unfinished = with_part (message_of key messages) h payload in
+    let next : Unfinished = with_part (message_under key messages) h payload in
     outcome (λ (r : Added × List Unfinished). length r.1 ≤ 256) messages key h payload
     (λ answer e. most)
     (λ body good e. omega (arith, most, length-without next.key messages))
     (λ good e. length-go_on next messages most)
-
--- nor does a call that adds one, whether it succeeds or not
-pub most-after : (r : Result Added NoMemory) (messages now : List Unfinished) (o : Added × List Unfinished) → length messages ≤ 256 → length o.1 ≤ 256 → IfOk r (λ answer. ◌≡◌ {A = Added × List Unfinished} (answer, now) o) → OnErr r (now ≡ messages) → length now ≤ 256
-most-after (Ok answer) messages now o before after ok err =
-    let same = ap (λ (p : Added × List Unfinished). length p.1) ok in omega (arith, after, same)
-most-after (Err e) messages now o before after ok err =
-    let same = ap (λ (p : List Unfinished). length p) err in omega (arith, before, same)

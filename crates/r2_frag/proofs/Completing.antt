@@ -9,9 +9,9 @@ use Rattle.r2_frag.specs.declared.key.Key.{Key}
 use Rattle.r2_frag.specs.declared.part_count.PartCount.{PartCount}
 use Rattle.r2_frag.specs.declared.part_count.PartCount.TheVariants.{Exactly, AtLeast}
 use Rattle.r2_frag.specs.declared.unfinished.Unfinished.{Unfinished}
-use Rattle.r2_frag.specs.Assembly.{added, has_all, joined, message_of, number_of, piece_at, refused, settle, whole_body, with_part}
+use Rattle.r2_frag.specs.Assembly.{added, has_all, joined, message_under, number_of, piece_at, refused, settle, whole_body, with_part}
 use Rattle.r2_frag.specs.Bodies.{IsAllowed, IsPartOf}
-use Rattle.r2_frag.specs.Histories.{Step, messages_after, numbers, parts_under}
+use Rattle.r2_frag.specs.Histories.{Operation, messages_after, numbers, parts_under}
 use Rattle.r2_frag.specs.Laws.{Completes, WholeAtTheLastPart}
 use Rattle.r2_frag.specs.Parts.{part_count}
 use Rattle.r2_frag.proofs.Gathering.{Holds, Holds-next, Keeps, gathers-after, has_number, has_number-true, true-has_number}
@@ -62,21 +62,21 @@ number-again n k numbers there e =
 answer-kept : (messages : List Unfinished) (key : Key) (h : Header) (payload : List ℕ) → refused messages key h payload ≡ Some Repeat → (added messages key h payload).0 ≡ Repeat
 answer-kept messages key h payload e = rw (added-refused messages key h payload Repeat e) refl
 
-answer-whole : (messages : List Unfinished) (key : Key) (h : Header) (payload b : List ℕ) → refused messages key h payload ≡ None → whole_body (with_part (message_of key messages) h payload).count (with_part (message_of key messages) h payload).pieces ≡ Some b → (added messages key h payload).0 ≡ Whole b
+answer-whole : (messages : List Unfinished) (key : Key) (h : Header) (payload b : List ℕ) → refused messages key h payload ≡ None → whole_body (with_part (message_under key messages) h payload).count (with_part (message_under key messages) h payload).pieces ≡ Some b → (added messages key h payload).0 ≡ Whole b
 unfolding settle
 answer-whole messages key h payload b good e = rw (added-taken messages key h payload good, e) refl
 
-answer-other : (P : Added → Type 0) (messages : List Unfinished) (key : Key) (h : Header) (payload : List ℕ) → refused messages key h payload ≡ None → whole_body (with_part (message_of key messages) h payload).count (with_part (message_of key messages) h payload).pieces ≡ None → P More → ((other : Key) → P (Dropped other)) → P (added messages key h payload).0
+answer-other : (P : Added → Type 0) (messages : List Unfinished) (key : Key) (h : Header) (payload : List ℕ) → refused messages key h payload ≡ None → whole_body (with_part (message_under key messages) h payload).count (with_part (message_under key messages) h payload).pieces ≡ None → P More → ((other : Key) → P (Dropped other)) → P (added messages key h payload).0
 unfolding settle
 answer-other P messages key h payload good e more dropped =
-    rw (added-taken messages key h payload good, e) (answer-go_on P (with_part (message_of key messages) h payload) messages more dropped)
+    rw (added-taken messages key h payload good, e) (answer-go_on P (with_part (message_under key messages) h payload) messages more dropped)
 
 -- a part that came since the key began
-completes-again : (body : List ℕ) (key : Key) (earlier : List Step) (h : Header) (payload : List ℕ) → Keeps body (numbers (parts_under key earlier)) (message_of key (messages_after earlier)) → IsPartOf body h payload → has_number (number_of h) (numbers (parts_under key earlier)) ≡ true → refused (messages_after earlier) key h payload ≡ Some Repeat → Completes body key earlier h payload
+completes-again : (body : List ℕ) (key : Key) (earlier : List Operation) (h : Header) (payload : List ℕ) → Keeps body (numbers (parts_under key earlier)) (message_under key (messages_after earlier)) → IsPartOf body h payload → has_number (number_of h) (numbers (parts_under key earlier)) ≡ true → refused (messages_after earlier) key h payload ≡ Some Repeat → Completes body key earlier h payload
 completes-again body key earlier h payload keeps part there again =
     let messages : List Unfinished = messages_after earlier in
     let came : List ℕ = numbers (parts_under key earlier) in
-    let m : Unfinished = message_of key messages in
+    let m : Unfinished = message_under key messages in
     let n : ℕ = number_of h in
     let a = answer-kept messages key h payload again in
     record {
@@ -92,11 +92,11 @@ completes-again body key earlier h payload keeps part there again =
     }
 
 -- a part that didn't come since then, and completes its message
-completes-last : (body : List ℕ) (key : Key) (earlier : List Step) (h : Header) (payload b : List ℕ) → length body ≤ 65536 → Keeps body (numbers (parts_under key earlier)) (message_of key (messages_after earlier)) → IsPartOf body h payload → has_number (number_of h) (numbers (parts_under key earlier)) ≡ false → refused (messages_after earlier) key h payload ≡ None → whole_body (with_part (message_of key (messages_after earlier)) h payload).count (with_part (message_of key (messages_after earlier)) h payload).pieces ≡ Some b → Completes body key earlier h payload
+completes-last : (body : List ℕ) (key : Key) (earlier : List Operation) (h : Header) (payload b : List ℕ) → length body ≤ 65536 → Keeps body (numbers (parts_under key earlier)) (message_under key (messages_after earlier)) → IsPartOf body h payload → has_number (number_of h) (numbers (parts_under key earlier)) ≡ false → refused (messages_after earlier) key h payload ≡ None → whole_body (with_part (message_under key (messages_after earlier)) h payload).count (with_part (message_under key (messages_after earlier)) h payload).pieces ≡ Some b → Completes body key earlier h payload
 completes-last body key earlier h payload b short keeps part new good e =
     let messages : List Unfinished = messages_after earlier in
     let came : List ℕ = numbers (parts_under key earlier) in
-    let m : Unfinished = message_of key messages in
+    let m : Unfinished = message_under key messages in
     let next : Unfinished = with_part m h payload in
     let n : ℕ = number_of h in
     let holds : Holds body (n ∷ came) next = Holds-next body came m h payload short keeps.holds part in
@@ -114,11 +114,11 @@ completes-last body key earlier h payload b short keeps part new good e =
     }
 
 -- or doesn't
-completes-more : (body : List ℕ) (key : Key) (earlier : List Step) (h : Header) (payload : List ℕ) → length body ≤ 65536 → Keeps body (numbers (parts_under key earlier)) (message_of key (messages_after earlier)) → IsPartOf body h payload → has_number (number_of h) (numbers (parts_under key earlier)) ≡ false → refused (messages_after earlier) key h payload ≡ None → whole_body (with_part (message_of key (messages_after earlier)) h payload).count (with_part (message_of key (messages_after earlier)) h payload).pieces ≡ None → Completes body key earlier h payload
+completes-more : (body : List ℕ) (key : Key) (earlier : List Operation) (h : Header) (payload : List ℕ) → length body ≤ 65536 → Keeps body (numbers (parts_under key earlier)) (message_under key (messages_after earlier)) → IsPartOf body h payload → has_number (number_of h) (numbers (parts_under key earlier)) ≡ false → refused (messages_after earlier) key h payload ≡ None → whole_body (with_part (message_under key (messages_after earlier)) h payload).count (with_part (message_under key (messages_after earlier)) h payload).pieces ≡ None → Completes body key earlier h payload
 completes-more body key earlier h payload short keeps part new good e =
     let messages : List Unfinished = messages_after earlier in
     let came : List ℕ = numbers (parts_under key earlier) in
-    let m : Unfinished = message_of key messages in
+    let m : Unfinished = message_under key messages in
     let next : Unfinished = with_part m h payload in
     let n : ℕ = number_of h in
     let holds : Holds body (n ∷ came) next = Holds-next body came m h payload short keeps.holds part in
@@ -138,7 +138,7 @@ completes-more body key earlier h payload short keeps part new good e =
     }
 
 -- by whether the message is whole with the part
-completes-new : (body : List ℕ) (key : Key) (earlier : List Step) (h : Header) (payload : List ℕ) (o : Option (List ℕ)) → length body ≤ 65536 → Keeps body (numbers (parts_under key earlier)) (message_of key (messages_after earlier)) → IsPartOf body h payload → has_number (number_of h) (numbers (parts_under key earlier)) ≡ false → refused (messages_after earlier) key h payload ≡ None → whole_body (with_part (message_of key (messages_after earlier)) h payload).count (with_part (message_of key (messages_after earlier)) h payload).pieces ≡ o → Completes body key earlier h payload
+completes-new : (body : List ℕ) (key : Key) (earlier : List Operation) (h : Header) (payload : List ℕ) (o : Option (List ℕ)) → length body ≤ 65536 → Keeps body (numbers (parts_under key earlier)) (message_under key (messages_after earlier)) → IsPartOf body h payload → has_number (number_of h) (numbers (parts_under key earlier)) ≡ false → refused (messages_after earlier) key h payload ≡ None → whole_body (with_part (message_under key (messages_after earlier)) h payload).count (with_part (message_under key (messages_after earlier)) h payload).pieces ≡ o → Completes body key earlier h payload
 completes-new body key earlier h payload (Some b) short keeps part new good e = completes-last body key earlier h payload b short keeps part new good e
 completes-new body key earlier h payload None short keeps part new good e = completes-more body key earlier h payload short keeps part new good e
 
@@ -146,7 +146,7 @@ completes-new body key earlier h payload None short keeps part new good e = comp
 pub whole_at_the_last_part : WholeAtTheLastPart
 whole_at_the_last_part body key earlier h payload short parts part =
     let messages : List Unfinished = messages_after earlier in
-    let m : Unfinished = message_of key messages in
+    let m : Unfinished = message_under key messages in
     let keeps = (gathers-after body key earlier short).keeps parts in
     let known = refusal-part body m.count (is_some (piece_at (number_of h) m.pieces)) h payload keeps.holds.parts.count part in
     let there = keeps.holds.kept (number_of h) in

@@ -2,14 +2,15 @@
 -- message whose second part comes before its first.
 use Rattle.std.proofs.Common.{◌≡◌, true, false, [], ◌∷◌, Some, replicate, refl, arith}
 use Rattle.std.proofs.lemmas.List.Elements.{All-cons, All-nil}
-use Rattle.r2_header.specs.Header.{client_bytes, kind_bytes, spelling, u16_bytes}
+use Rattle.r2_base.specs.Numbers.{u16_bytes}
+use Rattle.r2_header.specs.Header.{client_bytes, kind_bytes, spelling}
 use Rattle.r2_frag.specs.declared.added.Added.TheVariants.{Repeat, Bad}
 use Rattle.r2_frag.specs.declared.added.Why.TheVariants.{Length, Count}
 use Rattle.r2_frag.specs.declared.part_count.PartCount.TheVariants.{Exactly}
-use Rattle.r2_frag.specs.Assembly.{added, added_to, begin, begun, go_on, has_all, is_begun, joined, message_of, put, refusal, settle, with_part, without}
+use Rattle.r2_frag.specs.Assembly.{added, added_to, begin, begun, go_on, has_all, is_begun, joined, message_under, put, refusal, settle, with_part, without}
 use Rattle.r2_frag.specs.Bodies.{IsPartOf}
 use Rattle.r2_frag.specs.Histories.{Part, messages_after, parts_under}
-use Rattle.r2_frag.specs.Keys.{same_key, same_rid}
+use Rattle.r2_frag.specs.Keys.{same_key}
 use Rattle.r2_frag.specs.Parts.{part_count, part_header, piece}
 use Rattle.r2_frag.specs.Worked.{IsUsual, WorkedKeys, WorkedParts, body, first_part, other_body, recover, reply, request, request_passed_on, second_of_another, second_part}
 
@@ -72,7 +73,7 @@ usual_request_passed_on : IsUsual request_passed_on
 usual_request_passed_on =
     record {
       key = record { client = refl; from = refl };
-      fits = record { id = omega arith; client = (omega arith, omega arith) };
+      fits = record { id = omega arith; client = record { ip = omega arith; port = omega arith } };
       sendable = record { limit = omega arith; first = record { low = omega arith; high = omega arith }; later = λ h. record { low = omega arith; high = omega arith } };
     }
 
@@ -88,7 +89,7 @@ usual_recover : IsUsual recover
 usual_recover =
     record {
       key = record { client = refl; from = refl };
-      fits = record { id = omega arith; client = (omega arith, omega arith) };
+      fits = record { id = omega arith; client = record { ip = omega arith; port = omega arith } };
       sendable = record { limit = omega arith; first = record { low = omega arith; high = omega arith }; later = λ h. record { low = omega arith; high = omega arith } };
     }
 
@@ -111,7 +112,7 @@ another_is_part = record { number = omega arith; first = refl; counted = λ e. c
 
 -- the second part comes twice, and then the first
 pub worked_parts : WorkedParts
-unfolding added added_to begin begun go_on has_all is_begun joined message_of messages_after part_header parts_under put refusal same_key same_rid settle with_part without
+unfolding added added_to begin begun go_on has_all is_begun joined message_under messages_after part_header parts_under put refusal same_key settle with_part without
 worked_parts =
     record {
       first_is_part = first_is_part;

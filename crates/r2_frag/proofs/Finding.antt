@@ -8,12 +8,8 @@ use Rattle.r2_frag.specs.declared.key.Key.{Key}
 use Rattle.r2_frag.specs.declared.unfinished.Unfinished.{Unfinished}
 use Rattle.r2_frag.specs.Assembly.{is_of, put, without}
 use Rattle.r2_frag.specs.Keys.{same_key}
+use Rattle.r2_frag.specs.Pending.{AreDistinct}
 use Rattle.r2_frag.proofs.SameKeys.{same_key-same, same_key-true}
-
--- no key has two messages
-abbrev pub AreDistinct : List Unfinished → Type 0
-AreDistinct [] = Unit {0}
-AreDistinct (m ∷ rest) = (find (is_of m.key) rest ≡ None) × AreDistinct rest
 
 -- keys that aren't the same, the other way round
 pub same_key-comm : (a b : Key) → same_key a b ≡ false → same_key b a ≡ false

@@ -12,13 +12,14 @@ use Rattle.r2_frag.specs.declared.key.Key.{Key}
 use Rattle.r2_frag.specs.declared.part_count.PartCount.{PartCount}
 use Rattle.r2_frag.specs.declared.part_count.PartCount.TheVariants.{Exactly, AtLeast}
 use Rattle.r2_frag.specs.declared.unfinished.Unfinished.{Unfinished}
-use Rattle.r2_frag.specs.Assembly.{added, begin, begun, both_counts, contradicts, count_said, go_on, is_begun, is_of, length_fits, message_of, number_of, piece_at, put, refusal, whole_body, with_part, without}
+use Rattle.r2_frag.specs.Assembly.{added, begin, begun, both_counts, contradicts, count_said, go_on, is_begun, is_of, length_fits, message_under, number_of, piece_at, put, refusal, whole_body, with_part, without}
 use Rattle.r2_frag.specs.Bodies.{HasPartsOf, IsAllowed, IsPartOf}
-use Rattle.r2_frag.specs.Histories.{ArePartsOf, Part, Step, Adds, Forgets, messages_after, numbers, parts_by, parts_under, unless_given_up, with_new}
+use Rattle.r2_frag.specs.Histories.{ArePartsOf, Part, Operation, Adds, Forgets, messages_after, numbers, parts_by, parts_under, unless_given_up, with_new}
 use Rattle.r2_frag.specs.Keys.{same_key}
 use Rattle.r2_frag.specs.Laws.{IsRefusal}
 use Rattle.r2_frag.specs.Parts.{part_count}
-use Rattle.r2_frag.proofs.Finding.{AreDistinct, AreDistinct-push, AreDistinct-put, AreDistinct-without, find-push_other, find-push_same, find-put_other, find-put_same, find-without_other, find-without_same}
+use Rattle.r2_frag.specs.Pending.{AreDistinct}
+use Rattle.r2_frag.proofs.Finding.{AreDistinct-push, AreDistinct-put, AreDistinct-without, find-push_other, find-push_same, find-put_other, find-put_same, find-without_other, find-without_same}
 use Rattle.r2_frag.proofs.KeptPieces.{piece_at-other, piece_at-same}
 use Rattle.r2_frag.proofs.OneBody.{HasPartsOf-begun, HasPartsOf-with_part, key-next}
 use Rattle.r2_frag.proofs.OnePart.{none-begun, places-begun}
@@ -123,22 +124,22 @@ Holds-next body numbers m h payload short k part =
     }
 
 -- where the same message is found, the key's message is the same
-message_of-same : (key : Key) (a b : List Unfinished) → find (is_of key) a ≡ find (is_of key) b → message_of key a ≡ message_of key b
-unfolding message_of
-message_of-same key a b e = ap (λ (o : Option Unfinished). unwrap_or o (begun key)) e
+message_under-same : (key : Key) (a b : List Unfinished) → find (is_of key) a ≡ find (is_of key) b → message_under key a ≡ message_under key b
+unfolding message_under
+message_under-same key a b e = ap (λ (o : Option Unfinished). unwrap_or o (begun key)) e
 
-message_of-found : (key : Key) (messages : List Unfinished) (m : Unfinished) → find (is_of key) messages ≡ Some m → message_of key messages ≡ m
-unfolding message_of
-message_of-found key messages m e = rw e refl
+message_under-found : (key : Key) (messages : List Unfinished) (m : Unfinished) → find (is_of key) messages ≡ Some m → message_under key messages ≡ m
+unfolding message_under
+message_under-found key messages m e = rw e refl
 
-message_of-none : (key : Key) (messages : List Unfinished) → find (is_of key) messages ≡ None → message_of key messages ≡ begun key
-unfolding message_of
-message_of-none key messages e = rw e refl
+message_under-none : (key : Key) (messages : List Unfinished) → find (is_of key) messages ≡ None → message_under key messages ≡ begun key
+unfolding message_under
+message_under-none key messages e = rw e refl
 
 -- the messages are distinct, and that of the key keeps the parts that were taken, where these are of the body
 pub record Gathers (body : List ℕ) (key : Key) (parts : List Part) (messages : List Unfinished) : Type 0 where
   pub distinct : AreDistinct messages
-  pub keeps : ArePartsOf body parts → Keeps body (numbers parts) (message_of key messages)
+  pub keeps : ArePartsOf body parts → Keeps body (numbers parts) (message_under key messages)
 
 -- a message that goes on under some key: where that is this one, it keeps the parts and one more
 record GoesOn (body : List ℕ) (key other : Key) (part : Part) (parts : List Part) (next : Unfinished) : Type 0 where
@@ -158,13 +159,13 @@ after_put body key other part parts next messages g o begun' =
           let there : is_some (find (is_of key) messages) ≡ true = subst (λ (k : Key). is_some (find (is_of k) messages) ≡ true) same begun' in
           record {
             distinct = AreDistinct-put next messages g.distinct;
-            keeps = rw (t, message_of-found key (put next messages) next (find-put_same key next messages same there)) (o.more t);
+            keeps = rw (t, message_under-found key (put next messages) next (find-put_same key next messages same there)) (o.more t);
           })
       | inr f ↦
           (let apart = owner-test key other next false o.owner f in
           record {
             distinct = AreDistinct-put next messages g.distinct;
-            keeps = rw (f, message_of-same key (put next messages) messages (find-put_other key next messages apart)) g.keeps;
+            keeps = rw (f, message_under-same key (put next messages) messages (find-put_other key next messages apart)) g.keeps;
           })
     ]
 
@@ -178,13 +179,13 @@ after_push body key other part parts next messages g o none =
           let has = owner-test key other next true o.owner t in
           record {
             distinct = AreDistinct-push messages next none g.distinct;
-            keeps = rw (t, message_of-found key (messages ++ next ∷ []) next (find-push_same (is_of key) messages next has absent)) (o.more t);
+            keeps = rw (t, message_under-found key (messages ++ next ∷ []) next (find-push_same (is_of key) messages next has absent)) (o.more t);
           })
       | inr f ↦
           (let apart = owner-test key other next false o.owner f in
           record {
             distinct = AreDistinct-push messages next none g.distinct;
-            keeps = rw (f, message_of-same key (messages ++ next ∷ []) messages (find-push_other (is_of key) messages next apart)) g.keeps;
+            keeps = rw (f, message_under-same key (messages ++ next ∷ []) messages (find-push_other (is_of key) messages next apart)) g.keeps;
           })
     ]
 
@@ -195,10 +196,10 @@ after_oldest body key parts m rest g =
       | inl t ↦
           (let same = same_key-true m.key key t in
           let gone : find (is_of key) rest ≡ None = subst (λ (k : Key). find (is_of k) rest ≡ None) same g.distinct.0 in
-          record { distinct = g.distinct.1; keeps = rw (t, message_of-none key rest gone) (λ are. Keeps-begun body key) })
+          record { distinct = g.distinct.1; keeps = rw (t, message_under-none key rest gone) (λ are. Keeps-begun body key) })
       | inr f ↦
           (let there : find (is_of key) rest ≡ find (is_of key) (m ∷ rest) = rw f refl in
-          record { distinct = g.distinct.1; keeps = rw (f, message_of-same key rest (m ∷ rest) there) g.keeps })
+          record { distinct = g.distinct.1; keeps = rw (f, message_under-same key rest (m ∷ rest) there) g.keeps })
     ]
 
 -- and the key of one that begins has none, so the parts that are given up aren't its own
@@ -257,13 +258,13 @@ after_without body key other owner parts messages g e =
           let gone : find (is_of key) (without owner messages) ≡ None = subst (λ (k : Key). find (is_of key) (without k messages) ≡ None) (sym same) (find-without_same key messages g.distinct) in
           record {
             distinct = AreDistinct-without owner messages g.distinct;
-            keeps = rw (t, message_of-none key (without owner messages) gone) (λ are. Keeps-begun body key);
+            keeps = rw (t, message_under-none key (without owner messages) gone) (λ are. Keeps-begun body key);
           })
       | inr f ↦
           (let apart : same_key owner key ≡ false = ap (λ (k : Key). same_key k key) e ∙ f in
           record {
             distinct = AreDistinct-without owner messages g.distinct;
-            keeps = rw (f, message_of-same key (without owner messages) messages (find-without_other key owner messages apart)) g.keeps;
+            keeps = rw (f, message_under-same key (without owner messages) messages (find-without_other key owner messages apart)) g.keeps;
           })
     ]
 
@@ -297,29 +298,29 @@ after_added : (body : List ℕ) (key other : Key) (parts : List Part) (messages 
 after_added body key other parts messages h payload short g =
     let n : ℕ = number_of h in
     let part : Part = (h, payload) in
-    let next : Unfinished = with_part (message_of other messages) h payload in
+    let next : Unfinished = with_part (message_under other messages) h payload in
     let owner : next.key ≡ other = key-next other messages h payload in
     outcome (GathersBy body key other part parts) messages other h payload
     (λ answer e.
-    let none = refused-parts answer key other part parts (refusal-is (message_of other messages).count (is_some (piece_at n (message_of other messages).pieces)) h payload answer e) in
+    let none = refused-parts answer key other part parts (refusal-is (message_under other messages).count (is_some (piece_at n (message_under other messages).pieces)) h payload answer e) in
     subst (λ (ps : List Part). Gathers body key ps messages) (sym none) g)
     (λ b good e. after_without body key other next.key parts messages g owner)
     (λ good e. after_go_on body key other part parts next messages g (record {
       owner = owner;
       more = λ t are.
           (let same = same_key-true other key t in
-          let mine : message_of other messages ≡ message_of key messages = ap (λ (k : Key). message_of k messages) same in
+          let mine : message_under other messages ≡ message_under key messages = ap (λ (k : Key). message_under k messages) same in
           let before : ArePartsOf body parts = All-tail (λ (p : Part). IsPartOf body p.0 p.1) part parts are in
-          let mine_keeps : Keeps body (numbers parts) (message_of other messages) = subst (Keeps body (numbers parts)) (sym mine) (g.keeps before) in
+          let mine_keeps : Keeps body (numbers parts) (message_under other messages) = subst (Keeps body (numbers parts)) (sym mine) (g.keeps before) in
           let is : IsPartOf body h payload = All-head (λ (p : Part). IsPartOf body p.0 p.1) part parts are in
-          record { holds = Holds-next body (numbers parts) (message_of other messages) h payload short mine_keeps.holds is; waits = e });
+          record { holds = Holds-next body (numbers parts) (message_under other messages) h payload short mine_keeps.holds is; waits = e });
     }))
 
 -- what is gathered behind a history
-pub gathers-after : (body : List ℕ) (key : Key) (steps : List Step) → length body ≤ 65536 → Gathers body key (parts_under key steps) (messages_after steps)
+pub gathers-after : (body : List ℕ) (key : Key) (steps : List Operation) → length body ≤ 65536 → Gathers body key (parts_under key steps) (messages_after steps)
 unfolding messages_after parts_under
 gathers-after body key [] short =
-    record { distinct = tt; keeps = rw (message_of-none key [] refl) (λ are. Keeps-begun body key) }
+    record { distinct = tt; keeps = rw (message_under-none key [] refl) (λ are. Keeps-begun body key) }
 gathers-after body key (Adds other h payload ∷ earlier) short =
     after_added body key other (parts_under key earlier) (messages_after earlier) h payload short (gathers-after body key earlier short)
 gathers-after body key (Forgets other ∷ earlier) short =

@@ -1,6 +1,7 @@
 pub mod BodyPieces
 pub mod Bounds
 pub mod Completing
+pub mod Counted
 pub mod Examples
 pub mod Finding
 pub mod Gathering
@@ -11,6 +12,7 @@ pub mod OneBody
 pub mod OnePart
 pub mod Outcomes
 pub mod PartLaws
+pub mod Pending
 pub mod Places
 pub mod SameKeys
 pub mod Taken

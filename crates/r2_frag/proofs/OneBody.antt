@@ -12,7 +12,7 @@ use Rattle.r2_frag.specs.declared.key.Key.{Key}
 use Rattle.r2_frag.specs.declared.part_count.PartCount.{PartCount}
 use Rattle.r2_frag.specs.declared.part_count.PartCount.TheVariants.{Exactly, AtLeast}
 use Rattle.r2_frag.specs.declared.unfinished.Unfinished.{Unfinished}
-use Rattle.r2_frag.specs.Assembly.{added, begun, both_counts, contradicts, count_said, has_all, joined, length_fits, message_of, number_of, piece_at, refusal, whole_body, with_part}
+use Rattle.r2_frag.specs.Assembly.{added, begun, both_counts, contradicts, count_said, has_all, joined, length_fits, message_under, number_of, piece_at, refusal, whole_body, with_part}
 use Rattle.r2_frag.specs.Bodies.{GivesBody, HasOneBody, HasPartsOf, IsAllowed, IsPartOf}
 use Rattle.r2_frag.specs.Laws.{OneBody}
 use Rattle.r2_frag.specs.Parts.{part_count, piece}
@@ -90,17 +90,17 @@ HasPartsOf-begun body key =
     record { pieces = λ n p e. let none = empty_place 64 n in cc; count = part_count-least body }
 
 -- the message of a key has the key
-pub key-message_of : (key : Key) (messages : List Unfinished) → (message_of key messages).key ≡ key
-unfolding message_of begun
-key-message_of key messages =
+pub key-message_under : (key : Key) (messages : List Unfinished) → (message_under key messages).key ≡ key
+unfolding message_under begun
+key-message_under key messages =
     elim (first_or_absent key messages (begun key)) [
       | inl f ↦ (let place = f.2 in rw place.found (same_key-true _ _ place.has))
       | inr a ↦ rw a.found refl
     ]
 
 -- and parts of the one body that the messages with it have
-pub HasPartsOf-message : (body : List ℕ) (key : Key) (messages : List Unfinished) → HasOneBody body key messages → HasPartsOf body (message_of key messages)
-unfolding message_of
+pub HasPartsOf-message : (body : List ℕ) (key : Key) (messages : List Unfinished) → HasOneBody body key messages → HasPartsOf body (message_under key messages)
+unfolding message_under
 HasPartsOf-message body key messages one =
     elim (first_or_absent key messages (begun key)) [
       | inl f ↦
@@ -145,14 +145,14 @@ repeat-good body true answer e = let same : Repeat ≡ answer = cc in subst (Giv
 repeat-good body false answer e = cc
 
 -- a message with one part more has its key still
-pub key-next : (key : Key) (messages : List Unfinished) (h : Header) (payload : List ℕ) → (with_part (message_of key messages) h payload).key ≡ key
+pub key-next : (key : Key) (messages : List Unfinished) (h : Header) (payload : List ℕ) → (with_part (message_under key messages) h payload).key ≡ key
 unfolding with_part
-key-next key messages h payload = key-message_of key messages
+key-next key messages h payload = key-message_under key messages
 
 -- what comes of a part of the body that a message has parts of
-pub gives_body : (body : List ℕ) (messages : List Unfinished) (key : Key) (h : Header) (payload : List ℕ) → HasPartsOf body (message_of key messages) → IsPartOf body h payload → GivesBody body (added messages key h payload).0
+pub gives_body : (body : List ℕ) (messages : List Unfinished) (key : Key) (h : Header) (payload : List ℕ) → HasPartsOf body (message_under key messages) → IsPartOf body h payload → GivesBody body (added messages key h payload).0
 gives_body body messages key h payload has part =
-    let m : Unfinished = message_of key messages in
+    let m : Unfinished = message_under key messages in
     let next : Unfinished = with_part m h payload in
     let will : HasPartsOf body next = HasPartsOf-with_part body m h payload has part in
     let is_kept : Bool = is_some (piece_at (number_of h) m.pieces) in
@@ -164,7 +164,7 @@ gives_body body messages key h payload has part =
 -- where a key has parts of one body only, a part of that body makes the message that body or goes with the others
 pub one_body : OneBody
 one_body body messages key h payload one part =
-    let m : Unfinished = message_of key messages in
+    let m : Unfinished = message_under key messages in
     let has = HasPartsOf-message body key messages one in
     record {
       answer = gives_body body messages key h payload has part;

@@ -13,7 +13,7 @@ use Rattle.r2_frag.specs.declared.key.Key.{Key}
 use Rattle.r2_frag.specs.declared.part_count.PartCount.{PartCount}
 use Rattle.r2_frag.specs.declared.part_count.PartCount.TheVariants.{Exactly, AtLeast}
 use Rattle.r2_frag.specs.declared.unfinished.Unfinished.{Unfinished}
-use Rattle.r2_frag.specs.Assembly.{added, begun, both_counts, contradicts, count_said, has_all, joined, least_count, length_fits, message_of, number_of, piece_at, refusal, refused, settle, whole_body, with_part}
+use Rattle.r2_frag.specs.Assembly.{added, begun, both_counts, contradicts, count_said, has_all, joined, least_count, length_fits, message_under, number_of, piece_at, refusal, refused, settle, whole_body, with_part}
 use Rattle.r2_frag.specs.Bodies.{GivesAtOnce, IsUnfinished}
 use Rattle.r2_frag.specs.Laws.{ForgettingLeavesUnfinished, IsRefusal, OnePart, RefusedChangesNothing, UnfinishedStay}
 use Rattle.r2_frag.proofs.OneBody.{empty_place}
@@ -104,32 +104,32 @@ AtOnce messages payload r = GivesAtOnce payload r.0 × (r.1 ≡ messages)
 
 -- among messages of which none has the key
 one_part-absent : (messages : List Unfinished) (key : Key) (h : Header) (payload : List ℕ) → IsAbsent key messages → count_said h ≡ Exactly 1 → AtOnce messages payload (added messages key h payload)
-unfolding message_of settle with_part
+unfolding message_under settle with_part
 one_part-absent messages key h payload absent said =
-    let new : message_of key messages ≡ begun key = rw absent.found refl in
+    let new : message_under key messages ≡ begun key = rw absent.found refl in
     let number = number-only h said in
     elim (cases_Bool (length_fits h payload)) [
       | inr short ↦
-          (let bad = added-refused messages key h payload _ (bad-length (message_of key messages).count (is_some (piece_at (number_of h) (message_of key messages).pieces)) h payload short) in
+          (let bad = added-refused messages key h payload _ (bad-length (message_under key messages).count (is_some (piece_at (number_of h) (message_under key messages).pieces)) h payload short) in
           rw bad (tt, refl))
       | inl fits ↦
-          (let none : is_some (piece_at (number_of h) (message_of key messages).pieces) ≡ false = rw (new, none-begun key (number_of h)) refl in
-          let counts : contradicts (message_of key messages).count (count_said h) ≡ false = rw (new, count-begun key, said) refl in
-          let good : refused messages key h payload ≡ None = rw none (not_bad (message_of key messages).count h payload fits counts) in
+          (let none : is_some (piece_at (number_of h) (message_under key messages).pieces) ≡ false = rw (new, none-begun key (number_of h)) refl in
+          let counts : contradicts (message_under key messages).count (count_said h) ≡ false = rw (new, count-begun key, said) refl in
+          let good : refused messages key h payload ≡ None = rw none (not_bad (message_under key messages).count h payload fits counts) in
           let taken = added-taken messages key h payload good in
           rw taken (rw new (rw (count-begun key, said, number, only-whole key payload, key-begun key, absent.left) (refl, refl))))
     ]
 
 -- and where one has it, and waits for further parts
-one_part-against : (messages : List Unfinished) (key : Key) (h : Header) (payload : List ℕ) → 1 < least_count (message_of key messages).count → count_said h ≡ Exactly 1 → AtOnce messages payload (added messages key h payload)
+one_part-against : (messages : List Unfinished) (key : Key) (h : Header) (payload : List ℕ) → 1 < least_count (message_under key messages).count → count_said h ≡ Exactly 1 → AtOnce messages payload (added messages key h payload)
 one_part-against messages key h payload several said =
-    let against : contradicts (message_of key messages).count (count_said h) ≡ true = rw said (unfinished-contradicts (message_of key messages).count several) in
-    let bad = bad-against (message_of key messages).count (is_some (piece_at (number_of h) (message_of key messages).pieces)) h payload against in
+    let against : contradicts (message_under key messages).count (count_said h) ≡ true = rw said (unfinished-contradicts (message_under key messages).count several) in
+    let bad = bad-against (message_under key messages).count (is_some (piece_at (number_of h) (message_under key messages).pieces)) h payload against in
     rw (added-refused messages key h payload (Bad bad.0) bad.1) (tt, refl)
 
 -- a message of one part is whole at once or isn't taken, and no message among the unfinished changes
 pub one_part : OnePart
-unfolding message_of
+unfolding message_under
 one_part messages key h payload all said =
     elim (first_or_absent key messages (begun key)) [
       | inl f ↦
@@ -145,7 +145,7 @@ refused_changes_nothing messages key h payload =
     outcome (λ (r : Added × List Unfinished). IsRefusal r.0 → r.1 ≡ messages) messages key h payload
     (λ answer e i. refl)
     (λ body good e i. absurd i)
-    (λ good e i. absurd (answer-go_on (λ (a : Added). IsRefusal a → ⊥) (with_part (message_of key messages) h payload) messages (λ k. k) (λ other k. k) i))
+    (λ good e i. absurd (answer-go_on (λ (a : Added). IsRefusal a → ⊥) (with_part (message_under key messages) h payload) messages (λ k. k) (λ other k. k) i))
 
 -- a message that isn't refused by what an unfinished one's parts say is unfinished still
 several-both : (a b : PartCount) → 1 < least_count a → contradicts a b ≡ false → 1 < least_count (both_counts a b)
@@ -178,10 +178,10 @@ several-begun (AtLeast n) key h payload e counts not_whole =
     ]
 
 -- a message that goes on is unfinished
-next-unfinished : (messages : List Unfinished) (key : Key) (h : Header) (payload : List ℕ) → All IsUnfinished messages → refused messages key h payload ≡ None → whole_body (with_part (message_of key messages) h payload).count (with_part (message_of key messages) h payload).pieces ≡ None → IsUnfinished (with_part (message_of key messages) h payload)
-unfolding message_of with_part
+next-unfinished : (messages : List Unfinished) (key : Key) (h : Header) (payload : List ℕ) → All IsUnfinished messages → refused messages key h payload ≡ None → whole_body (with_part (message_under key messages) h payload).count (with_part (message_under key messages) h payload).pieces ≡ None → IsUnfinished (with_part (message_under key messages) h payload)
+unfolding message_under with_part
 next-unfinished messages key h payload all good not_whole =
-    let checks = passes (message_of key messages).count (is_some (piece_at (number_of h) (message_of key messages).pieces)) h payload good in
+    let checks = passes (message_under key messages).count (is_some (piece_at (number_of h) (message_under key messages).pieces)) h payload good in
     elim (first_or_absent key messages (begun key)) [
       | inl f ↦
           (let place = f.2 in

@@ -7,7 +7,7 @@ use Rattle.r2_frag.specs.declared.added.Added.{Added}
 use Rattle.r2_frag.specs.declared.added.Added.TheVariants.{More, Whole, Dropped}
 use Rattle.r2_frag.specs.declared.key.Key.{Key}
 use Rattle.r2_frag.specs.declared.unfinished.Unfinished.{Unfinished}
-use Rattle.r2_frag.specs.Assembly.{added, added_to, begin, finish_or, go_on, is_begun, is_of, message_of, put, refused, settle, unless_refused, whole_body, with_part, without}
+use Rattle.r2_frag.specs.Assembly.{added, added_to, begin, finish_or, go_on, is_begun, is_of, message_under, put, refused, settle, unless_refused, whole_body, with_part, without}
 
 -- one of two outcomes
 abbrev either : Bool → Added × List Unfinished → Added × List Unfinished → Added × List Unfinished
@@ -26,10 +26,10 @@ by_refusal P next messages (Some answer) refusal taken = refusal answer refl
 by_refusal P next messages None refusal taken = taken refl
 
 -- a part is refused, makes its message whole, or goes on
-pub outcome : (P : Outcome) (messages : List Unfinished) (key : Key) (h : Header) (payload : List ℕ) → ((answer : Added) → refused messages key h payload ≡ Some answer → P (answer, messages)) → ((body : List ℕ) → refused messages key h payload ≡ None → whole_body (with_part (message_of key messages) h payload).count (with_part (message_of key messages) h payload).pieces ≡ Some body → P (Whole body, without (with_part (message_of key messages) h payload).key messages)) → (refused messages key h payload ≡ None → whole_body (with_part (message_of key messages) h payload).count (with_part (message_of key messages) h payload).pieces ≡ None → P (go_on (with_part (message_of key messages) h payload) messages)) → P (added messages key h payload)
+pub outcome : (P : Outcome) (messages : List Unfinished) (key : Key) (h : Header) (payload : List ℕ) → ((answer : Added) → refused messages key h payload ≡ Some answer → P (answer, messages)) → ((body : List ℕ) → refused messages key h payload ≡ None → whole_body (with_part (message_under key messages) h payload).count (with_part (message_under key messages) h payload).pieces ≡ Some body → P (Whole body, without (with_part (message_under key messages) h payload).key messages)) → (refused messages key h payload ≡ None → whole_body (with_part (message_under key messages) h payload).count (with_part (message_under key messages) h payload).pieces ≡ None → P (go_on (with_part (message_under key messages) h payload) messages)) → P (added messages key h payload)
 unfolding added added_to settle
 outcome P messages key h payload refusal whole more =
-    let next : Unfinished = with_part (message_of key messages) h payload in
+    let next : Unfinished = with_part (message_under key messages) h payload in
     by_refusal P next messages (refused messages key h payload) refusal (λ good. by_whole P next messages (whole_body next.count next.pieces) (λ body. whole body good) (more good))
 
 -- what holds of each message holds of those that are left without one
@@ -74,9 +74,9 @@ All-go_on P next messages new all =
     ]
 
 -- what is left: what stood before, and the part's message where it isn't whole
-pub left : (P : Unfinished → Type 0) (messages : List Unfinished) (key : Key) (h : Header) (payload : List ℕ) → All P messages → (refused messages key h payload ≡ None → whole_body (with_part (message_of key messages) h payload).count (with_part (message_of key messages) h payload).pieces ≡ None → P (with_part (message_of key messages) h payload)) → All P (added messages key h payload).1
+pub left : (P : Unfinished → Type 0) (messages : List Unfinished) (key : Key) (h : Header) (payload : List ℕ) → All P messages → (refused messages key h payload ≡ None → whole_body (with_part (message_under key messages) h payload).count (with_part (message_under key messages) h payload).pieces ≡ None → P (with_part (message_under key messages) h payload)) → All P (added messages key h payload).1
 left P messages key h payload all new =
-    let next : Unfinished = with_part (message_of key messages) h payload in
+    let next : Unfinished = with_part (message_under key messages) h payload in
     outcome (λ (r : Added × List Unfinished). All P r.1) messages key h payload (λ answer e. all) (λ body good e. All-without P next.key messages all) (λ good e. All-go_on P next messages (new good e) all)
 
 -- where a message goes on the answer is More or Dropped

@@ -7,7 +7,7 @@ use Rattle.std.proofs.lemmas.Option.{slice_get-get_or}
 use Rattle.r2_base.specs.declared.datagram.Datagram.{Datagram}
 use Rattle.r2_header.specs.declared.header.Header.{Header}
 use Rattle.r2_header.specs.Header.{spelling}
-use Rattle.r2_header.specs.Laws.{FitsFields}
+use Rattle.r2_header.specs.Laws.{FitsHeader}
 use Rattle.r2_header.specs.Reading.{header_at}
 use Rattle.r2_header.proofs.Sound.{spelling_is_read}
 use Rattle.r2_frag.specs.declared.class.Class.{Class}
@@ -59,16 +59,16 @@ placed-part spec body n h =
     slice_get-get_or parts n d inside ∙ ap Some (get_or-map-range_with_len (part_datagram spec body) 0 (part_count body) n n d h (omega arith))
 
 -- the numbers of a part's header fit their fields
-FitsFields-part_header : (spec : PartSpec) (count n : ℕ) → FitsHeaders spec → FitsFields (part_header spec count n)
+FitsHeader-part_header : (spec : PartSpec) (count n : ℕ) → FitsHeaders spec → FitsHeader (part_header spec count n)
 unfolding part_header
-FitsFields-part_header spec count n fits = record { id = fits.id; client = fits.client }
+FitsHeader-part_header spec count n fits = record { id = fits.id; client = fits.client }
 
 -- the bytes of a part read as its header
 read-part : (spec : PartSpec) (body : List ℕ) (n : ℕ) → IsSendable spec body → FitsHeaders spec → n < part_count body → header_at (part_datagram spec body n).bytes ≡ Ok (part_header spec (part_count body) n, length (spelling (part_header spec (part_count body) n)))
 unfolding part_datagram
 read-part spec body n sendable fits h =
     let header : Header = part_header spec (part_count body) n in
-    spelling_is_read header (spelling header) (piece body n) (FitsFields-part_header spec (part_count body) n fits) (record { valid = IsValid-part_header spec body n sendable h; same = refl })
+    spelling_is_read header (spelling header) (piece body n) (FitsHeader-part_header spec (part_count body) n fits) (record { valid = IsValid-part_header spec body n sendable h; same = refl })
 
 -- and have its piece behind
 payload-part : (spec : PartSpec) (body : List ℕ) (n : ℕ) → drop (length (spelling (part_header spec (part_count body) n))) (part_datagram spec body n).bytes ≡ piece body n

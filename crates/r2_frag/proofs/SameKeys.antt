@@ -1,13 +1,12 @@
--- The tests of keys and request ids, and their equality.
-use Rattle.std.proofs.Common.{◌≡◌, ◌==◌, true, refl, arith}
+-- The test of keys, and their equality.
+use Rattle.std.proofs.Common.{◌≡◌, true, refl, arith}
 use Rattle.std.proofs.lemmas.Bool.{and_parts, eqb-true}
 use Rattle.std.proofs.lemmas.Grind.{common_steps}
-use Rattle.r2_base.specs.declared.addr.Addr.{Addr}
-use Rattle.r2_base.specs.declared.rid.Rid.{Rid}
+use Rattle.r2_base.proofs.SameNames.{same_addr-true, same_rid-same, same_rid-true}
 use Rattle.r2_frag.specs.declared.class.Class.{Class}
 use Rattle.r2_frag.specs.declared.class.Class.TheVariants.{Request, Reply, Recover}
 use Rattle.r2_frag.specs.declared.key.Key.{Key}
-use Rattle.r2_frag.specs.Keys.{same_addr, same_class, same_key, same_rid}
+use Rattle.r2_frag.specs.Keys.{same_class, same_key}
 
 -- the test of classes passes at equal ones alone
 same_class-true : (a b : Class) → same_class a b ≡ true → a ≡ b
@@ -26,31 +25,6 @@ same_class-same : (a : Class) → same_class a a ≡ true
 same_class-same Request = refl
 same_class-same Reply = refl
 same_class-same Recover = refl
-
--- addresses of the same parts
-same_addr_parts : (a b : Addr) → a.ip ≡ b.ip → a.port ≡ b.port → a ≡ b
-same_addr_parts a b p q = λ k. record { ip = p k; port = q k }
-
-same_addr-true : (a b : Addr) → same_addr a b ≡ true → a ≡ b
-same_addr-true a b e =
-    let parts = and_parts (a.ip == b.ip) (a.port == b.port) e in
-    same_addr_parts a b (eqb-true a.ip b.ip parts.0) (eqb-true a.port b.port parts.1)
-
--- request ids of the same parts
-same_rid_parts : (a b : Rid) → a.id ≡ b.id → a.client ≡ b.client → a ≡ b
-same_rid_parts a b p q = λ k. record { id = p k; client = q k }
-
--- the test of request ids passes at equal ones alone
-pub same_rid-true : (a b : Rid) → same_rid a b ≡ true → a ≡ b
-unfolding same_rid
-same_rid-true a b e =
-    let parts = and_parts (a.id == b.id) (same_addr a.client b.client) e in
-    same_rid_parts a b (eqb-true a.id b.id parts.0) (same_addr-true a.client b.client parts.1)
-
--- and at these
-pub same_rid-same : (a : Rid) → same_rid a a ≡ true
-unfolding same_rid
-same_rid-same a = grind (arith, common_steps)
 
 -- keys of the same parts
 same_key_parts : (a b : Key) → a.class ≡ b.class → a.policy ≡ b.policy → a.from ≡ b.from → a.rid ≡ b.rid → a ≡ b

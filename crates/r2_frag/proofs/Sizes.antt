@@ -20,9 +20,9 @@ use Rattle.r2_frag.specs.declared.key.Key.{Key}
 use Rattle.r2_frag.specs.declared.part_count.PartCount.{PartCount}
 use Rattle.r2_frag.specs.declared.part_count.PartCount.TheVariants.{Exactly, AtLeast}
 use Rattle.r2_frag.specs.declared.unfinished.Unfinished.{Unfinished}
-use Rattle.r2_frag.specs.Assembly.{added, added_to, begin, begun, both_counts, contradicts, count_said, is_begun, is_of, whole_body, has_all, finish_or, go_on, refusal, unless_refused, joined, least_count, length_fits, message_of, most_unfinished, number_of, piece_at, put, settle, with_part, without}
+use Rattle.r2_frag.specs.Assembly.{added, added_to, begin, begun, both_counts, contradicts, count_said, is_begun, is_of, whole_body, has_all, finish_or, go_on, refusal, unless_refused, joined, least_count, length_fits, message_under, most_unfinished, number_of, piece_at, put, settle, with_part, without}
 use Rattle.r2_frag.specs.Keys.{class_of, key_at, key_between, same_class, same_key}
-use Rattle.r2_frag.specs.Sizes.{IsCountWithin, IsShort, IsShortPiece, greatest_count, most_bytes}
+use Rattle.r2_frag.specs.Sizes.{IsBodyWithin, IsCountWithin, IsShort, IsShortPiece, greatest_count, most_bytes}
 
 -- what holds of each branch holds of the choice
 branch : {X : Type 0} (P : X → Type 0) (b : Bool) (x y : X) → (b ≡ true → P x) → (b ≡ false → P y) → P (if b then x else y)
@@ -155,17 +155,9 @@ found-short key other (m ∷ rest) new all =
     (found-short key other rest new (All-tail IsShort m rest all))
 
 -- the message that a part is added to
-message_of-short : (key : Key) (messages : List Unfinished) → All IsShort messages → IsShortOf key.class (message_of key messages)
-unfolding message_of begun
-message_of-short key messages all = found-short key (begun key) messages (record { short = begun-short key; same = refl }) all
-
--- a body, where the answer is one, has no more bytes than the class allows
-abbrev pub IsBodyWithin : Class → Added → Type 0
-IsBodyWithin class (Whole body) = length body ≤ most_bytes class
-IsBodyWithin class More = Unit {0}
-IsBodyWithin class Repeat = Unit {0}
-IsBodyWithin class (Bad why) = Unit {0}
-IsBodyWithin class (Dropped key) = Unit {0}
+message_under-short : (key : Key) (messages : List Unfinished) → All IsShort messages → IsShortOf key.class (message_under key messages)
+unfolding message_under begun
+message_under-short key messages all = found-short key (begun key) messages (record { short = begun-short key; same = refl }) all
 
 -- the answer is within the class, and each message that is left is short
 pub record KeepsShort (class : Class) (r : Added × List Unfinished) : Type 0 where
@@ -234,12 +226,12 @@ added_to-short m messages h payload short all said =
     (λ long. settle-short (with_part m h payload) messages (with_part-short m h payload short said long) all)
 
 -- adding a part keeps messages short
-added-short : (messages : List Unfinished) (key : Key) (h : Header) (payload : List ℕ)
+pub added-short : (messages : List Unfinished) (key : Key) (h : Header) (payload : List ℕ)
     → All IsShort messages → IsValid h → class_of h.packet ≡ Some key.class → KeepsShort key.class (added messages key h payload)
 unfolding added
 added-short messages key h payload all valid e =
-    let m = message_of key messages in
-    let is : IsShortOf key.class m = message_of-short key messages all in
+    let m = message_under key messages in
+    let is : IsShortOf key.class m = message_under-short key messages all in
     let said = subst (λ class. IsCountWithin class (count_said h)) (sym is.same) (count_said-within h key.class valid e) in
     subst (λ class. KeepsShort class (added_to m messages h payload)) is.same (added_to-short m messages h payload is.short all said)
 

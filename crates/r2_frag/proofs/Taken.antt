@@ -15,20 +15,20 @@ use Rattle.r2_frag.specs.declared.key.Key.{Key}
 use Rattle.r2_frag.specs.declared.part_count.PartCount.{PartCount}
 use Rattle.r2_frag.specs.declared.part_count.PartCount.TheVariants.{Exactly, AtLeast}
 use Rattle.r2_frag.specs.declared.unfinished.Unfinished.{Unfinished}
-use Rattle.r2_frag.specs.Assembly.{added, added_to, begin, begun, both_counts, count_said, go_on, has_all, is_begun, joined, is_of, message_of, number_of, piece_at, refused, settle, whole_body, with_part}
+use Rattle.r2_frag.specs.Assembly.{added, added_to, begin, begun, both_counts, count_said, go_on, has_all, is_begun, joined, is_of, message_under, number_of, piece_at, refused, settle, whole_body, with_part}
 use Rattle.r2_frag.proofs.KeptPieces.{has_all-missing, piece_at-other}
 use Rattle.r2_frag.proofs.Places.{IsAbsent-position, IsFirst-position}
 use Rattle.r2_frag.proofs.SameKeys.{same_key-true}
 
 -- the message at the place of the key is its message
-pub message_of-first : (key : Key) (messages : List Unfinished) (place : ℕ) (d : Unfinished) → position (is_of key) messages ≡ Some place → message_of key messages ≡ get_or messages place d
-unfolding message_of
-message_of-first key messages place d e = let f = IsFirst-position key messages place d e in rw f.found refl
+pub message_under-first : (key : Key) (messages : List Unfinished) (place : ℕ) (d : Unfinished) → position (is_of key) messages ≡ Some place → message_under key messages ≡ get_or messages place d
+unfolding message_under
+message_under-first key messages place d e = let f = IsFirst-position key messages place d e in rw f.found refl
 
 -- where none has the key, its message is a new one
-pub message_of-absent : (key : Key) (messages : List Unfinished) → position (is_of key) messages ≡ None → message_of key messages ≡ begun key
-unfolding message_of
-message_of-absent key messages e = let a = IsAbsent-position key messages e in rw a.found refl
+pub message_under-absent : (key : Key) (messages : List Unfinished) → position (is_of key) messages ≡ None → message_under key messages ≡ begun key
+unfolding message_under
+message_under-absent key messages e = let a = IsAbsent-position key messages e in rw a.found refl
 
 -- the message at the place has the key
 pub key-first : (key : Key) (messages : List Unfinished) (place : ℕ) (d : Unfinished) → position (is_of key) messages ≡ Some place → (get_or messages place d).key ≡ key
@@ -50,7 +50,7 @@ unfolding begun
 count-begun key = refl
 
 -- what comes of a part that no check refuses
-pub added-taken : (messages : List Unfinished) (key : Key) (h : Header) (payload : List ℕ) → refused messages key h payload ≡ None → added messages key h payload ≡ settle (with_part (message_of key messages) h payload) messages
+pub added-taken : (messages : List Unfinished) (key : Key) (h : Header) (payload : List ℕ) → refused messages key h payload ≡ None → added messages key h payload ≡ settle (with_part (message_under key messages) h payload) messages
 unfolding added added_to
 added-taken messages key h payload e = rw e refl
 
@@ -71,7 +71,7 @@ pub record IsTaken (messages : List Unfinished) (key : Key) (h : Header) (payloa
 taken-with_part : (messages : List Unfinished) (key : Key) (h : Header) (payload : List ℕ) (place : ℕ) (m : Unfinished) (count : PartCount) (number : ℕ) → IsTaken messages key h payload place m count number → added messages key h payload ≡ settle (record m { count = count; pieces = set m.pieces number (Some payload) }) messages
 unfolding with_part
 taken-with_part messages key h payload place m count number t =
-    added-taken messages key h payload t.good ∙ rw (message_of-first key messages place m t.found, ← t.read, ← t.counted, ← t.numbered) refl
+    added-taken messages key h payload t.good ∙ rw (message_under-first key messages place m t.found, ← t.read, ← t.counted, ← t.numbered) refl
 
 -- two readings of one place are the same
 pub same_read : {X : Type 0} (xs : List X) (i : ℕ) (x y : X) → i < length xs → x ≡ get_or xs i x → y ≡ get_or xs i y → x ≡ y
@@ -161,7 +161,7 @@ added-only messages key h payload absent good only =
     let parts = and_parts h.first (h.number == 1) only in
     let whole = whole_body-only key h payload parts.0 (eqb-true h.number 1 parts.1) in
     let a = IsAbsent-position key messages absent in
-    added-taken messages key h payload good ∙ rw (message_of-absent key messages absent, whole, key-begun key, a.left) refl
+    added-taken messages key h payload good ∙ rw (message_under-absent key messages absent, whole, key-begun key, a.left) refl
 
 -- a new message that goes on
 pub added-first : (messages : List Unfinished) (key : Key) (h : Header) (payload : List ℕ) → IsValid h → position (is_of key) messages ≡ None → refused messages key h payload ≡ None → (h.first && (h.number == 1)) ≡ false → added messages key h payload ≡ begin (with_part (begun key) h payload) messages
@@ -169,7 +169,7 @@ unfolding settle with_part go_on is_begun
 added-first messages key h payload valid absent good several =
     let whole = whole_body-first key h payload valid several in
     let a = IsAbsent-position key messages absent in
-    added-taken messages key h payload good ∙ rw (message_of-absent key messages absent, whole, key-begun key, a.found) refl
+    added-taken messages key h payload good ∙ rw (message_under-absent key messages absent, whole, key-begun key, a.found) refl
 
 -- a message behind the others, where there is room
 pub begin-room : (next : Unfinished) (messages : List Unfinished) → length messages < 256 → begin next messages ≡ (More, messages ++ next ∷ [])

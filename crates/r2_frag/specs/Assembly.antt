@@ -1,4 +1,4 @@
--- Unfinished messages, the one begun first in front, and what adding a part to them comes to.
+-- Unfinished messages, the one begun first at the head, and what adding a part to them comes to.
 use Rattle.std.specs.Prelude.{ℕ, zero, suc, ◌+◌, ◌==◌, ◌&&◌, max, nat_lt, nat_le, Bool, true, false, not, is_some, if◌then◌else◌, List, [], ◌∷◌, ◌++◌, length, replicate, slice_index_or, slice_set, unwrap_or, Option, Some, None}
 use Rattle.std.specs.List.{find}
 use Rattle.r2_header.specs.declared.header.Header.{Header}
@@ -10,6 +10,7 @@ use Rattle.r2_frag.specs.declared.part_count.PartCount.{PartCount}
 use Rattle.r2_frag.specs.declared.part_count.PartCount.TheVariants.{Exactly, AtLeast}
 use Rattle.r2_frag.specs.declared.unfinished.Unfinished.{Unfinished}
 use Rattle.r2_frag.specs.Keys.{same_key}
+use Rattle.r2_frag.specs.Parts.{most_parts, piece_size}
 
 -- how many messages may be unfinished
 abbrev pub most_unfinished : ℕ
@@ -25,9 +26,9 @@ count_said h =
     if h.first then Exactly h.number
     else (if h.last then Exactly (h.number + 1) else AtLeast (h.number + 2))
 
--- each part has 1,024 bytes, the last may have fewer
+-- each part has `piece_size` bytes, the last may have fewer
 abbrev pub length_fits : Header → List ℕ → Bool
-length_fits h payload = if h.last then nat_le (length payload) 1024 else length payload == 1024
+length_fits h payload = if h.last then nat_le (length payload) piece_size else length payload == piece_size
 
 -- the exact count, or else the least
 abbrev pub least_count : PartCount → ℕ
@@ -66,18 +67,18 @@ abbrev pub whole_body : PartCount → List (Option (List ℕ)) → Option (List 
 whole_body (Exactly n) pieces = if has_all n pieces then Some (joined n pieces) else None
 whole_body (AtLeast n) pieces = None
 
--- a message of which no part came; it has 64 places rather than a map from number to payload, since no header can number
--- more parts
+-- a message of which no part came; it has a place for each part that may be, rather than a map from number to payload,
+-- since no header can number more parts
 unfoldable pub begun : Key → Unfinished
-begun key = record { key = key; count = AtLeast 1; pieces = replicate 64 None }
+begun key = record { key = key; count = AtLeast 1; pieces = replicate most_parts None }
 
 -- whether a message has this key
 abbrev pub is_of : Key → Unfinished → Bool
 is_of key m = same_key m.key key
 
 -- the message with this key, or a new one
-unfoldable pub message_of : Key → List Unfinished → Unfinished
-message_of key messages = unwrap_or (find (is_of key) messages) (begun key)
+unfoldable pub message_under : Key → List Unfinished → Unfinished
+message_under key messages = unwrap_or (find (is_of key) messages) (begun key)
 
 -- whether some part with this key is kept
 unfoldable pub is_begun : Key → List Unfinished → Bool
@@ -101,7 +102,7 @@ unfoldable pub put : Unfinished → List Unfinished → List Unfinished
 put next [] = []
 put next (m ∷ rest) = if is_of next.key m then next ∷ rest else m ∷ put next rest
 
--- a message behind the others: where as many as may be are unfinished, the one begun first leaves
+-- a message after the others: where as many as may be are unfinished, the one begun first leaves
 unfoldable pub begin : Unfinished → List Unfinished → Added × List Unfinished
 begin next [] = (More, next ∷ [])
 begin next (m ∷ rest) =
@@ -139,10 +140,10 @@ added_to m messages h payload =
 
 -- a part is added: the answer, and the messages that are left
 unfoldable pub added : List Unfinished → Key → Header → List ℕ → Added × List Unfinished
-added messages key h payload = added_to (message_of key messages) messages h payload
+added messages key h payload = added_to (message_under key messages) messages h payload
 
 -- the answer to a part that isn't taken, or is kept already
 abbrev pub refused : List Unfinished → Key → Header → List ℕ → Option Added
 refused messages key h payload =
-    let m = message_of key messages in
+    let m = message_under key messages in
     refusal m.count (is_some (piece_at (number_of h) m.pieces)) h payload

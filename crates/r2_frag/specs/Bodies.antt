@@ -9,7 +9,7 @@ use Rattle.r2_frag.specs.declared.part_count.PartCount.{PartCount}
 use Rattle.r2_frag.specs.declared.part_count.PartCount.TheVariants.{Exactly, AtLeast}
 use Rattle.r2_frag.specs.declared.unfinished.Unfinished.{Unfinished}
 use Rattle.r2_frag.specs.Assembly.{least_count, number_of, piece_at}
-use Rattle.r2_frag.specs.Parts.{part_count, piece}
+use Rattle.r2_frag.specs.Parts.{most_parts, part_count, piece}
 
 -- a header and a payload are a part of the body: the first counts its pieces, the last is marked, and the payload is the
 -- piece of its number
@@ -50,7 +50,7 @@ pub record KeepsBody (body : List ℕ) (key : Key) (messages : List Unfinished) 
 -- a message waits for further parts: it has two at least, and a place for each number
 pub record IsUnfinished (m : Unfinished) : Type 0 where
   pub several : 1 < least_count m.count
-  pub places : length m.pieces ≡ 64
+  pub places : length m.pieces ≡ most_parts
 
 -- the answer is the whole payload, or the part isn't taken
 abbrev pub GivesAtOnce : List ℕ → Added → Type 0

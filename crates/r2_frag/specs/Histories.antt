@@ -11,18 +11,18 @@ use Rattle.r2_frag.specs.Bodies.{IsPartOf}
 use Rattle.r2_frag.specs.Keys.{same_key}
 
 -- one thing done to an assembly
-pub data Step : Type 0 where
-  Adds : Key → Header → List ℕ → Step
-  Forgets : Key → Step
+pub data Operation : Type 0 where
+  Adds : Key → Header → List ℕ → Operation
+  Forgets : Key → Operation
 
--- the messages that are unfinished behind these steps, of which the newest is in front
-unfoldable pub messages_after : List Step → List Unfinished
+-- the messages that are unfinished after these operations, of which the newest comes first
+unfoldable pub messages_after : List Operation → List Unfinished
 messages_after [] = []
 messages_after (Adds key h payload ∷ earlier) = (added (messages_after earlier) key h payload).1
 messages_after (Forgets key ∷ earlier) = without key (messages_after earlier)
 
--- the answer to a part that is added behind these steps
-abbrev pub answer_after : List Step → Key → Header → List ℕ → Added
+-- the answer to a part that is added after these operations
+abbrev pub answer_after : List Operation → Key → Header → List ℕ → Added
 answer_after earlier key h payload = (added (messages_after earlier) key h payload).0
 
 -- a part: its header and its payload
@@ -37,7 +37,7 @@ with_new key other part parts = if same_key other key then part ∷ parts else p
 abbrev pub unless_given_up : Key → Key → List Part → List Part
 unless_given_up key other parts = if same_key other key then [] else parts
 
--- the parts of a key behind a part under another or the same key, by the answer to that: a part that isn't taken, or that is
+-- the parts of a key after a part under another or the same key, by the answer to that: a part that isn't taken, or that is
 -- kept already, adds none
 abbrev pub parts_by : Added → Key → Key → Part → List Part → List Part
 parts_by More key other part parts = with_new key other part parts
@@ -47,7 +47,7 @@ parts_by Repeat key other part parts = parts
 parts_by (Bad why) key other part parts = parts
 
 -- the parts that were taken under a key since it last began: finished, forgotten and dropped keys begin anew
-unfoldable pub parts_under : Key → List Step → List Part
+unfoldable pub parts_under : Key → List Operation → List Part
 parts_under key [] = []
 parts_under key (Adds other h payload ∷ earlier) =
     parts_by (answer_after earlier other h payload) key other (h, payload) (parts_under key earlier)

@@ -1,7 +1,7 @@
 -- Keys: when two are the same, and which one a datagram's header gives.
 use Rattle.std.specs.Prelude.{◌==◌, ◌&&◌, Bool, true, false, Option, Some, None, option_map}
 use Rattle.r2_base.specs.declared.addr.Addr.{Addr}
-use Rattle.r2_base.specs.declared.rid.Rid.{Rid}
+use Rattle.r2_base.specs.Names.{same_addr, same_rid}
 use Rattle.r2_header.specs.declared.header.Header.{Header}
 use Rattle.r2_header.specs.declared.packet.Packet.{Packet}
 use Rattle.r2_header.specs.declared.packet.Packet.TheVariants as packet
@@ -15,14 +15,6 @@ same_class Request Request = true
 same_class Reply Reply = true
 same_class Recover Recover = true
 same_class _ _ = false
-
--- whether two addresses are the same
-abbrev pub same_addr : Addr → Addr → Bool
-same_addr a b = (a.ip == b.ip) && (a.port == b.port)
-
--- whether two request ids are the same
-unfoldable pub same_rid : Rid → Rid → Bool
-same_rid a b = (a.id == b.id) && same_addr a.client b.client
 
 -- whether two keys are the same
 unfoldable pub same_key : Key → Key → Bool

@@ -1,6 +1,7 @@
 -- What holds of any messages, any parts and any history.
-use Rattle.std.specs.Prelude.{◌≡◌, ℕ, ◌+◌, ◌<◌, ◌≤◌, ◌^◌, ◌↔◌, List, [], ◌∷◌, ◌++◌, length, map, Some, Ok, drop}
+use Rattle.std.specs.Prelude.{◌≡◌, ℕ, ◌+◌, ◌<◌, ◌≤◌, ◌↔◌, List, [], ◌∷◌, ◌++◌, length, map, Some, Ok, drop}
 use Rattle.std.specs.List.{All, Contains, concat, range_with_len, slice_get}
+use Rattle.r2_base.specs.Limits.{id_limit, most_reply}
 use Rattle.r2_header.specs.declared.header.Header.{Header}
 use Rattle.r2_header.specs.Header.{IsValid, spelling}
 use Rattle.r2_header.specs.Laws.{FitsClient}
@@ -11,11 +12,11 @@ use Rattle.r2_frag.specs.declared.key.Key.{Key}
 use Rattle.r2_frag.specs.declared.part_count.PartCount.TheVariants.{Exactly}
 use Rattle.r2_frag.specs.declared.part_spec.PartSpec.{PartSpec}
 use Rattle.r2_frag.specs.declared.unfinished.Unfinished.{Unfinished}
-use Rattle.r2_frag.specs.Assembly.{added, count_said, number_of, without}
+use Rattle.r2_frag.specs.Assembly.{added, count_said, most_unfinished, number_of, without}
 use Rattle.r2_frag.specs.Bodies.{GivesAtOnce, GivesBody, HasOneBody, IsPartOf, IsUnfinished, KeepsBody}
-use Rattle.r2_frag.specs.Histories.{ArePartsOf, HasEach, Step, answer_after, numbers, parts_under}
+use Rattle.r2_frag.specs.Histories.{ArePartsOf, HasEach, Operation, answer_after, numbers, parts_under}
 use Rattle.r2_frag.specs.Keys.{client_of, key_at, sender_of}
-use Rattle.r2_frag.specs.Parts.{IsSendable, carried, part_count, part_datagram, part_header, parts_of, piece}
+use Rattle.r2_frag.specs.Parts.{IsSendable, carried, part_count, part_datagram, part_header, parts_of, piece, piece_size}
 
 -- where a key has parts of one body only and a part of that body is added, a whole body is that one, and each message that
 -- is left stood before or has parts of that body only
@@ -45,11 +46,11 @@ RefusedChangesNothing =
     (messages : List Unfinished) (key : Key) (h : Header) (payload : List ℕ)
     → IsRefusal (added messages key h payload).0 → (added messages key h payload).1 ≡ messages
 
--- no more than 256 messages are unfinished behind any part, where no more were
+-- no more messages than may be are unfinished after any part, where no more were
 abbrev pub MostUnfinished : Type 0
 MostUnfinished =
     (messages : List Unfinished) (key : Key) (h : Header) (payload : List ℕ)
-    → length messages ≤ 256 → length (added messages key h payload).1 ≤ 256
+    → length messages ≤ most_unfinished → length (added messages key h payload).1 ≤ most_unfinished
 
 -- what is unfinished stays so, and what is begun is so
 abbrev pub UnfinishedStay : Type 0
@@ -64,7 +65,7 @@ ForgettingLeavesUnfinished =
 
 -- a part isn't bad; the answer is the body exactly where the part and those that were taken under its key since the key last
 -- began are all parts of the body; and it is Repeat exactly where the part was taken since then
-pub record Completes (body : List ℕ) (key : Key) (earlier : List Step) (h : Header) (payload : List ℕ) : Type 0 where
+pub record Completes (body : List ℕ) (key : Key) (earlier : List Operation) (h : Header) (payload : List ℕ) : Type 0 where
   pub good : GivesBody body (answer_after earlier key h payload)
   pub whole : (answer_after earlier key h payload ≡ Whole body) ↔ HasEach (part_count body) (number_of h ∷ numbers (parts_under key earlier))
   pub repeat : (answer_after earlier key h payload ≡ Repeat) ↔ Contains (numbers (parts_under key earlier)) (number_of h)
@@ -73,16 +74,16 @@ pub record Completes (body : List ℕ) (key : Key) (earlier : List Step) (h : He
 -- last began, whatever was refused, and whatever came under other keys
 abbrev pub WholeAtTheLastPart : Type 0
 WholeAtTheLastPart =
-    (body : List ℕ) (key : Key) (earlier : List Step) (h : Header) (payload : List ℕ)
-    → length body ≤ 65536 → ArePartsOf body (parts_under key earlier) → IsPartOf body h payload → Completes body key earlier h payload
+    (body : List ℕ) (key : Key) (earlier : List Operation) (h : Header) (payload : List ℕ)
+    → length body ≤ most_reply → ArePartsOf body (parts_under key earlier) → IsPartOf body h payload → Completes body key earlier h payload
 
--- the pieces of a body, joined in order, are the body; there is one at least; each but the last has 1,024 bytes, and the
+-- the pieces of a body, joined in order, are the body; there is one at least; each but the last has `piece_size` bytes, and the
 -- last has at most as many, and is empty only for the empty body
 pub record IsInPieces (body : List ℕ) : Type 0 where
   pub joined : concat (map (piece body) (range_with_len 0 (part_count body))) ≡ body
   pub some : 1 ≤ part_count body
-  pub inner : (n : ℕ) → n + 1 < part_count body → length (piece body n) ≡ 1024
-  pub last : (n : ℕ) → n + 1 ≡ part_count body → length (piece body n) ≤ 1024
+  pub inner : (n : ℕ) → n + 1 < part_count body → length (piece body n) ≡ piece_size
+  pub last : (n : ℕ) → n + 1 ≡ part_count body → length (piece body n) ≤ piece_size
   pub empty : (n : ℕ) → n + 1 ≡ part_count body → piece body n ≡ [] → body ≡ []
 
 abbrev pub EachBodyIsInPieces : Type 0
@@ -95,7 +96,7 @@ pub record IsKeyBetween (spec : PartSpec) : Type 0 where
 
 -- the id, and the client's address where the headers carry it, fit the fields that hold them
 pub record FitsHeaders (spec : PartSpec) : Type 0 where
-  pub id : spec.key.rid.id < 2 ^ 16
+  pub id : spec.key.rid.id < id_limit
   pub client : FitsClient (carried spec)
 
 -- the datagram of a part stands at its place among those of the body: it goes between the addresses asked for, its bytes
@@ -122,8 +123,8 @@ abbrev pub PartsHaveTheKey : Type 0
 PartsHaveTheKey =
     (spec : PartSpec) (count n : ℕ) → IsKeyBetween spec → key_at spec.from spec.to (part_header spec count n) ≡ Some spec.key
 
--- a body of at most 1,024 bytes is one part, with the body as its payload
+-- a body of at most `piece_size` bytes is one part, with the body as its payload
 abbrev pub ShortBodyIsOnePart : Type 0
 ShortBodyIsOnePart =
-    (spec : PartSpec) (body : List ℕ) → length body ≤ 1024
+    (spec : PartSpec) (body : List ℕ) → length body ≤ piece_size
     → parts_of spec body ≡ record { from = spec.from; to = spec.to; bytes = spelling (part_header spec 1 0) ++ body } ∷ []

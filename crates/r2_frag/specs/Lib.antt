@@ -6,4 +6,6 @@ pub mod Bodies
 pub mod Histories
 pub mod Laws
 pub mod Sizes
+pub mod Pending
+pub mod Replies
 pub mod Worked

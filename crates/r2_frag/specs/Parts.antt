@@ -1,6 +1,7 @@
 -- A body in parts: its pieces, and the datagram of each.
-use Rattle.std.specs.Prelude.{ℕ, zero, suc, ◌+◌, ◌*◌, ◌/◌, ◌≤◌, ◌<◌, ◌==◌, max, if◌then◌else◌, List, ◌++◌, length, take, drop, map, Option, Some, None}
+use Rattle.std.specs.Prelude.{ℕ, zero, suc, ◌+◌, ◌-◌, ◌*◌, ◌/◌, ◌≤◌, ◌<◌, ◌==◌, max, if◌then◌else◌, List, ◌++◌, length, take, drop, map, Option, Some, None}
 use Rattle.std.specs.List.{range_with_len}
+use Rattle.r2_base.specs.Limits.{most_body, most_reply}
 use Rattle.r2_base.specs.declared.addr.Addr.{Addr}
 use Rattle.r2_base.specs.declared.datagram.Datagram.{Datagram}
 use Rattle.r2_header.specs.declared.header.Header.{Header}
@@ -17,20 +18,24 @@ use Rattle.r2_frag.specs.declared.part_spec.PartSpec.{PartSpec}
 abbrev pub piece_size : ℕ
 piece_size = 1024
 
--- how many pieces a body has: as few as hold it, and one for the empty body; no body within its limit has more than 64, and
--- no header can number more
+-- the most parts that a message may have
+abbrev pub most_parts : ℕ
+most_parts = 64
+
+-- how many pieces a body has: as few as hold it, and one for the empty body; no body within its limit has more than
+-- `most_parts`, and no header can number more
 unfoldable pub part_count : List ℕ → ℕ
-part_count body = max 1 ((length body + 1023) / piece_size)
+part_count body = max 1 ((length body + (piece_size - 1)) / piece_size)
 
 -- the piece of a body with this number, counted from 0
 unfoldable pub piece : List ℕ → ℕ → List ℕ
 piece body n = take piece_size (drop (n * piece_size) body)
 
--- the most bytes that a body of this class may have
+-- the most bytes that a body of this class may have; that of a RECOVER has two bytes more than a request's
 abbrev pub body_limit : Class → ℕ
-body_limit Request = 61440
-body_limit Reply = 65536
-body_limit Recover = 61442
+body_limit Request = most_body
+body_limit Reply = most_reply
+body_limit Recover = most_body + 2
 
 -- the type of packet of the part with this number
 abbrev pub part_type : Class → ℕ → Packet

@@ -8,7 +8,7 @@ use Rattle.r2_frag.specs.declared.class.Class.TheVariants.{Request, Reply, Recov
 use Rattle.r2_frag.specs.declared.key.Key.{Key}
 use Rattle.r2_frag.specs.declared.part_spec.PartSpec.{PartSpec}
 use Rattle.r2_frag.specs.Bodies.{IsPartOf}
-use Rattle.r2_frag.specs.Histories.{ArePartsOf, Part, Step, Adds, answer_after, parts_under}
+use Rattle.r2_frag.specs.Histories.{ArePartsOf, Part, Operation, Adds, answer_after, parts_under}
 use Rattle.r2_frag.specs.Laws.{FitsHeaders, IsKeyBetween}
 use Rattle.r2_frag.specs.Parts.{IsSendable, part_header}
 
@@ -69,10 +69,10 @@ other_body = replicate 1024 0 ++ 2 ∷ []
 abbrev pub second_of_another : Part
 second_of_another = (part_header request 2 1, 2 ∷ [])
 
-abbrev pub adds : Part → Step
+abbrev pub adds : Part → Operation
 adds part = Adds request.key part.0 part.1
 
-abbrev pub answer_to : Part → List Step → Added
+abbrev pub answer_to : Part → List Operation → Added
 answer_to part earlier = answer_after earlier request.key part.0 part.1
 
 -- the second part comes twice, and then the first: the answers are More, Repeat and the body; and the key begins anew, with a

@@ -1,11 +1,15 @@
 ghost use Rattle.std.specs.Prelude.{◌≡◌, ◌<◌, ◌≤◌, ◌==◌, ◌&&◌, [], Some, None, Ok, IfOk, OnErr, is_some, length, slice_set};
 ghost use Rattle.std.specs.List.{position};
 ghost use Rattle.r2_header.specs.Header.{IsValid};
-ghost use Rattle.r2_frag.specs.Assembly.{added, begin, is_begun, is_of, length_fits, message_of, piece_at, refusal, refused, whole_body, without};
+ghost use Rattle.r2_frag.specs.Assembly.{added, begin, is_begun, is_of, length_fits, message_under, most_unfinished, piece_at, refusal, refused, whole_body, without};
+ghost use Rattle.r2_frag.specs.Keys.{class_of};
+ghost use Rattle.r2_frag.specs.Parts.{most_parts};
+ghost use Rattle.r2_frag.specs.Pending.{ArePending};
+ghost use Rattle.r2_frag.specs.Sizes.{IsBodyWithin};
 ghost use Rattle.r2_frag.specs.declared.added.Added.{Added};
 
-use crate::datagrams::PIECE_SIZE;
 use crate::key::same_key;
+use crate::limits::{MOST_UNFINISHED, PIECE_SIZE};
 use crate::part_count::{PartCount, count_said, number_of};
 use crate::pieces::Pieces;
 use crate::unfinished::Unfinished;
@@ -15,10 +19,7 @@ use r2_header::Header;
 use std::alloc::Global;
 use std::marker::Model;
 
-/// How many messages may be unfinished.
-const MOST_UNFINISHED: usize = 256;
-
-/// The messages some of whose parts came, the one begun first in front (R2P2, on requests and replies of several packets).
+/// The messages some of whose parts came, the one begun first at the head (R2P2, on requests and replies of several packets).
 #[derive(Drop)]
 pub struct Assembly {
     alloc: Global,
@@ -26,14 +27,15 @@ pub struct Assembly {
 }
 
 impl Model for Assembly {
-    ghost use Rattle.std.specs.Prelude.{◌≤◌, List, length};
+    ghost use Rattle.std.specs.Prelude.{List};
+    ghost use Rattle.r2_frag.specs.Pending.{ArePending};
     ghost use Rattle.r2_frag.specs.declared.unfinished.Unfinished.{Unfinished};
 
     ghost Value = { List Unfinished };
 
     ghost view = { λ a. a.messages.items };
 
-    ghost invariant = { λ a. length a.messages.items ≤ 256 };
+    ghost invariant = { λ a. ArePending a.messages.items };
 }
 
 impl Assembly {
@@ -47,22 +49,30 @@ impl Assembly {
         }
     }
 
-    /// How many messages are unfinished, 256 at most.
+    /// How many messages are unfinished, `MOST_UNFINISHED` at most.
     pub fn unfinished(&self) -> usize
         ensures count { result ≡ length self.now }
-        ensures most { result ≤ 256 }
+        ensures most { result ≤ most_unfinished }
+        ensures pending { ArePending self.now }
     {
+        let _messages = &self.messages;
         self.messages.len()
     }
 
-    /// Adds a part of a message: the payload behind this header, in a datagram with this key.
+    /// Adds a part of a message: the payload after this header, in a datagram with this key. The header is of the key's
+    /// class, as `key_of` tells.
     ///
-    /// Where a message begins and 256 are unfinished, the one begun first is given up. `Bad` and `Repeat` change nothing and
-    /// take no memory, and nor does want of memory change anything.
+    /// Where a message begins and `MOST_UNFINISHED` are unfinished, the one begun first is given up. `Bad` and `Repeat`
+    /// change nothing and take no memory, and nor does want of memory change anything.
     pub fn add(&mut self, key: Key, header: &Header, payload: &[u8]) -> Result<Added, NoMemory>
-        requires { IsValid header.now }
+        requires valid { IsValid header.now }
+        requires class { class_of header.now.packet ≡ Some key.class }
         ensures ok { IfOk result (λ answer. (answer, self.new) ≡ added self.old key header.now payload.now) }
         ensures err { OnErr result (self.new ≡ self.old) }
+
+        // A body is no longer than its class allows.
+        ensures body { IfOk result (λ answer. IsBodyWithin key.class answer) }
+        ensures pending { ArePending self.new }
 
         // A part that isn't taken, or that is kept already, takes no memory.
         ensures free { (answer : Added) → refused self.old key header.now payload.now ≡ Some answer → result ≡ Ok answer }
@@ -83,6 +93,7 @@ impl Assembly {
     pub fn forget(&mut self, key: &Key) -> bool
         ensures found { result ≡ is_begun key.now self.old }
         ensures left { self.new ≡ without key.now self.old }
+        ensures pending { ArePending self.new }
     {
         match place_of(self.messages.as_slice(), key) {
             None => false,
@@ -111,9 +122,9 @@ fn known_of(
     number: u16,
 ) -> (PartCount, bool)
     requires place { position (is_of key) messages.now ≡ place }
-    requires number { number < 64 }
-    ensures count { result.0 ≡ (message_of key messages.now).count }
-    ensures kept { result.1 ≡ is_some (piece_at number (message_of key messages.now).pieces) }
+    requires number { number < most_parts }
+    ensures count { result.0 ≡ (message_under key messages.now).count }
+    ensures kept { result.1 ≡ is_some (piece_at number (message_under key messages.now).pieces) }
 {
     match place {
         None => (PartCount::AtLeast(1), false),
@@ -176,7 +187,7 @@ fn add_new(
     begin(messages, Unfinished { key, count, pieces })
 }
 
-/// Puts a message behind the others. Where 256 are unfinished, the one begun first leaves.
+/// Puts a message after the others. Where as many as may be are unfinished, the one begun first leaves.
 fn begin(messages: &mut Vec<Unfinished>, next: Unfinished) -> Result<Added, NoMemory>
     ensures ok { IfOk result (λ answer. (answer, messages.new.items) ≡ begin next messages.old.items) }
     ensures err { OnErr result (messages.new.items ≡ messages.old.items) }
@@ -239,7 +250,7 @@ fn whole_body(
     number: u16,
     piece: &[u8],
 ) -> Result<Option<Bytes>, NoMemory>
-    requires { number < 64 }
+    requires { number < most_parts }
     ensures { IfOk result (λ body. body ≡ whole_body count (slice_set message.now.pieces number (Some piece.now))) }
 {
     let PartCount::Exactly(exact) = count else {
@@ -254,7 +265,7 @@ fn whole_body(
 
 /// Keeps one part more.
 fn put_part(message: &mut Unfinished, count: PartCount, number: u16, piece: Bytes)
-    requires { number < 64 }
+    requires { number < most_parts }
     ensures { message.new ≡ record message.old { count = count; pieces = slice_set message.old.pieces number (Some piece) } }
 {
     message.count = count;

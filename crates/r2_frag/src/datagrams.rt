@@ -1,17 +1,13 @@
 ghost use Rattle.std.specs.Prelude.{◌≡◌, ℕ, ◌<◌, ◌≤◌, List, IfOk, length};
+ghost use Rattle.r2_base.specs.Limits.{most_reply};
 ghost use Rattle.r2_header.specs.Header.{IsValid};
-ghost use Rattle.r2_frag.specs.Parts.{IsSendable, part_count, part_datagram, part_header, part_type, parts_of, piece};
+ghost use Rattle.r2_frag.specs.Parts.{IsSendable, most_parts, part_count, part_datagram, part_header, part_type, parts_of, piece};
 
+use crate::limits::PIECE_SIZE;
 use crate::{Class, PartSpec};
 use r2_base::{Bytes, Datagram, Datagrams, NoMemory};
-use r2_header::{Header, Packet, write};
+use r2_header::{HEADER_ROOM, Header, Packet, write};
 use std::alloc::Global;
-
-/// How many bytes a piece has that isn't the last, and the last has at most.
-pub(crate) const PIECE_SIZE: usize = 1024;
-
-/// How many bytes are enough for a header.
-const HEADER_ROOM: usize = 20;
 
 /// The datagrams of a body in parts, in order.
 ///
@@ -33,7 +29,7 @@ pub fn parts(alloc: Global, spec: &PartSpec, body: &[u8]) -> Result<Datagrams, N
 /// How many pieces a body has.
 #[tactic(auto, unfolding(crate::specs::Parts::part_count))]
 fn part_count(body: &[u8]) -> u16
-    requires { length body.now ≤ 65536 }
+    requires { length body.now ≤ most_reply }
     ensures { result ≡ part_count body.now }
 {
     let pieces = body.len().div_ceil(PIECE_SIZE).max(1);
@@ -64,7 +60,7 @@ fn part_type(class: Class, n: u16) -> Packet
 /// The header of one of so many parts.
 #[tactic(auto, unfolding(crate::specs::Parts::part_header))]
 fn part_header(spec: &PartSpec, count: u16, n: u16) -> Header
-    requires { n < 64 }
+    requires { n < most_parts }
     ensures { result ≡ part_header spec.now count n }
 {
     Header {

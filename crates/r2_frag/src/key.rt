@@ -1,5 +1,5 @@
-ghost use Rattle.std.specs.Prelude.{◌≡◌};
-ghost use Rattle.r2_frag.specs.Keys.{class_of, client_of, key_at, same_addr, same_class, same_key, same_rid, sender_of};
+ghost use Rattle.std.specs.Prelude.{◌≡◌, IfSome, Some};
+ghost use Rattle.r2_frag.specs.Keys.{class_of, client_of, key_at, same_class, same_key, sender_of};
 
 use crate::Class;
 use r2_base::{Addr, Datagram, Rid};
@@ -9,7 +9,7 @@ use r2_header::{Header, Packet};
 #[derive(Clone, Copy, Debug, PartialEq, Eq)]
 pub struct Key {
     pub class: Class,
-    /// 0 FIXED, 1 JBSQ, 2 REPLICATED, 3 REPLICATED_READ.
+    /// `FIXED`, `JBSQ`, `REPLICATED` or `REPLICATED_READ`, of `r2_header::policy`.
     pub policy: u8,
     /// The client for a request, whoever passed it on; else the sender.
     pub from: Addr,
@@ -20,7 +20,10 @@ pub struct Key {
 /// further parts.
 #[tactic(auto, unfolding(crate::specs::Keys::key_at))]
 pub fn key_of(d: &Datagram, h: &Header) -> Option<Key>
-    ensures { result ≡ key_at d.now.from d.now.to h.now }
+    ensures key { result ≡ key_at d.now.from d.now.to h.now }
+
+    // The header is of the key's class.
+    ensures class { IfSome result (λ key. class_of h.now.packet ≡ Some key.class) }
 {
     let class = class_of(h.packet)?;
     let client = client_of(h.client, class, d.from, d.to);
@@ -69,23 +72,7 @@ fn sender_of(class: Class, client: Addr, from: Addr) -> Addr
 pub(crate) fn same_key(a: &Key, b: &Key) -> bool
     ensures { result ≡ same_key a.now b.now }
 {
-    same_class(a.class, b.class)
-        && a.policy == b.policy
-        && same_addr(&a.from, &b.from)
-        && same_rid(&a.rid, &b.rid)
-}
-
-#[tactic(auto, unfolding(crate::specs::Keys::same_rid))]
-pub(crate) fn same_rid(a: &Rid, b: &Rid) -> bool
-    ensures { result ≡ same_rid a.now b.now }
-{
-    a.id == b.id && same_addr(&a.client, &b.client)
-}
-
-fn same_addr(a: &Addr, b: &Addr) -> bool
-    ensures { result ≡ same_addr a.now b.now }
-{
-    a.ip == b.ip && a.port == b.port
+    same_class(a.class, b.class) && a.policy == b.policy && a.from == b.from && a.rid == b.rid
 }
 
 fn same_class(a: Class, b: Class) -> bool

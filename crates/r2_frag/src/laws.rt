@@ -10,9 +10,8 @@ pub fn parts_of_one_body_give_that_body()
 
 /// A message of one part is whole at once, or isn't taken, and touches no other.
 ///
-/// It asks that each message that is kept is unfinished (`All IsUnfinished`). An empty assembly has none that isn't, and adding
-/// a part (`kept_messages_are_unfinished`) and forgetting a message (`forgetting_leaves_the_others_unfinished`) keep it so; a
-/// user carries it from step to step.
+/// It asks that each message that is kept is unfinished (`All IsUnfinished`), which holds of every assembly: the clauses
+/// `pending` of its methods say so.
 pub fn one_part_is_whole_at_once()
     ensures { OnePart }
 {}
@@ -22,8 +21,8 @@ pub fn refused_parts_change_nothing()
     ensures { RefusedChangesNothing }
 {}
 
-/// Adding never makes more than 256 messages unfinished.
-pub fn at_most_256_messages_are_unfinished()
+/// Adding never makes more messages unfinished than may be.
+pub fn no_more_messages_are_unfinished_than_may_be()
     ensures { MostUnfinished }
 {}
 

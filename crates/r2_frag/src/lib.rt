@@ -8,9 +8,11 @@ mod datagrams;
 mod kept;
 mod key;
 pub mod laws;
+mod limits;
 mod part_count;
 mod part_spec;
 mod pieces;
+mod replies;
 #[cfg(test)]
 mod tests;
 mod unfinished;
@@ -21,4 +23,6 @@ pub use class::Class;
 pub use datagrams::parts;
 pub use kept::Kept;
 pub use key::{Key, key_of};
+pub use limits::{MOST_KEPT, MOST_PARTS, MOST_UNFINISHED, PIECE_SIZE};
 pub use part_spec::PartSpec;
+pub use replies::reply_parts;

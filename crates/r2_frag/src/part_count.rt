@@ -1,5 +1,6 @@
 ghost use Rattle.std.specs.Prelude.{◌≡◌, ◌<◌, ◌≤◌};
 ghost use Rattle.r2_header.specs.Header.{IsValid};
+ghost use Rattle.r2_frag.specs.Parts.{most_parts};
 ghost use Rattle.r2_frag.specs.Assembly.{both_counts, contradicts, count_said, least_count, number_of};
 
 use r2_header::Header;
@@ -17,7 +18,7 @@ pub enum PartCount {
 pub(crate) fn number_of(h: &Header) -> u16
     requires { IsValid h.now }
     ensures number { result ≡ number_of h.now }
-    ensures most { result < 64 }
+    ensures most { result < most_parts }
 {
     if h.first { 0 } else { h.number }
 }

@@ -1,12 +1,11 @@
 ghost use Rattle.std.specs.Prelude.{◌≡◌, ℕ, ◌<◌, ◌≤◌, List, [], Option, Some, None, IfOk, is_some, length, option_copied, replicate, slice_set, unwrap_or};
+ghost use Rattle.r2_frag.specs.Parts.{most_parts};
 ghost use Rattle.r2_frag.specs.Assembly.{has_all, joined, piece_at};
 
+use crate::limits::MOST_PARTS;
 use r2_base::{Bytes, NoMemory};
 use std::alloc::Global;
 use std::marker::Model;
-
-/// How many parts a message may have.
-const MOST_PARTS: usize = 64;
 
 /// The pieces of a message that came so far, each at its number.
 #[derive(Debug, Drop)]
@@ -16,18 +15,19 @@ pub struct Pieces {
 
 impl Model for Pieces {
     ghost use Rattle.std.specs.Prelude.{◌≡◌, ℕ, List, Option, length};
+    ghost use Rattle.r2_frag.specs.Parts.{most_parts};
 
     ghost Value = { List (Option (List ℕ)) };
 
     ghost view = { λ a. a.places.items };
 
-    ghost invariant = { λ a. length a.places.items ≡ 64 };
+    ghost invariant = { λ a. length a.places.items ≡ most_parts };
 }
 
 impl Pieces {
     /// No pieces yet.
     pub(crate) fn new(alloc: Global) -> Result<Pieces, NoMemory>
-        ensures { IfOk result (λ pieces. pieces ≡ replicate 64 None) }
+        ensures { IfOk result (λ pieces. pieces ≡ replicate most_parts None) }
     {
         let places = empty_places(alloc)?;
         Ok(Pieces { places })
@@ -35,7 +35,7 @@ impl Pieces {
 
     /// Whether the piece with this number is kept.
     pub(crate) fn has(&self, number: u16) -> bool
-        requires { number < 64 }
+        requires { number < most_parts }
         ensures { result ≡ is_some (piece_at number self.now) }
     {
         self.places[usize::from(number)].is_some()
@@ -43,7 +43,7 @@ impl Pieces {
 
     /// Keeps a piece.
     pub(crate) fn put(&mut self, number: u16, piece: Bytes)
-        requires { number < 64 }
+        requires { number < most_parts }
         ensures { self.new ≡ slice_set self.old number (Some piece) }
     {
         self.places[usize::from(number)] = Some(piece);
@@ -51,7 +51,7 @@ impl Pieces {
 
     /// Whether each piece below `count` is kept, once `piece` is that with `number`.
     pub(crate) fn has_all_with(&self, count: u16, number: u16, piece: &[u8]) -> bool
-        requires { number < 64 }
+        requires { number < most_parts }
         ensures { result ≡ has_all count (slice_set self.now number (Some piece.now)) }
     {
         has_all_with(self.places.as_slice(), count, number, piece)
@@ -65,7 +65,7 @@ impl Pieces {
         number: u16,
         piece: &[u8],
     ) -> Result<Bytes, NoMemory>
-        requires { number < 64 }
+        requires { number < most_parts }
         ensures { IfOk result (λ body. body ≡ joined count (slice_set self.now number (Some piece.now))) }
     {
         let body = join_with(alloc, self.places.as_slice(), count, number, piece)?;
@@ -75,7 +75,7 @@ impl Pieces {
 
 /// A place for each number, all empty.
 fn empty_places(alloc: Global) -> Result<Vec<Option<Bytes>>, NoMemory>
-    ensures { IfOk result (λ places. places.items ≡ replicate 64 None) }
+    ensures { IfOk result (λ places. places.items ≡ replicate most_parts None) }
 {
     let mut places = Vec::with_capacity(alloc, MOST_PARTS)?;
     'places: for _number in 0..MOST_PARTS {

@@ -2,8 +2,11 @@
 
 ghost use Rattle.std.specs.Prelude.{◌≡◌, IfOk, length};
 
-use crate::{Added, Assembly, Class, Kept, Key, PartSpec, Why, key_of, parts};
-use r2_base::{Addr, Bytes, Datagrams, Rid};
+use crate::{
+    Added, Assembly, Class, Kept, Key, MOST_UNFINISHED, PartSpec, Why, key_of, parts, reply_parts,
+};
+use r2_base::{Addr, Bytes, Datagram, Datagrams, MOST_BODY, MOST_REPLY, Rid};
+use r2_header::policy::JBSQ;
 use r2_header::read;
 use std::alloc::Global;
 use std::test::Fail;
@@ -41,7 +44,7 @@ fn body(alloc: Global, len: usize) -> Result<Vec<u8>, Fail>
 
 /// The datagrams of a request of so many bytes, from the client to the server.
 fn send(alloc: Global, id: u16, len: usize) -> Result<Datagrams, Fail> {
-    let bytes = body(alloc, len.min(61_440))?;
+    let bytes = body(alloc, len.min(MOST_BODY))?;
     let spec = PartSpec {
         key: Key {
             class: Class::Request,
@@ -57,15 +60,13 @@ fn send(alloc: Global, id: u16, len: usize) -> Result<Datagrams, Fail> {
     Ok(datagrams)
 }
 
-/// Adds the part that a datagram of the client carries.
-fn add(assembly: &mut Assembly, bytes: &[u8]) -> Result<Added, Fail> {
-    match read(bytes) {
-        Err(_) => Err(Fail::from("no header")),
-        Ok((header, size)) => {
-            let answer = assembly.add(request(header.id), &header, &bytes[size..])?;
-            Ok(answer)
-        }
-    }
+/// Adds the part that a datagram carries.
+fn add(assembly: &mut Assembly, d: &Datagram) -> Result<Added, Fail> {
+    let bytes = d.bytes.as_slice();
+    let (header, size) = read(bytes).map_err(|_| "no header")?;
+    let key = key_of(d, &header).ok_or("no key")?;
+    let answer = assembly.add(key, &header, &bytes[size..])?;
+    Ok(answer)
 }
 
 /// Adds a part with this header and so many bytes.
@@ -77,7 +78,12 @@ fn add_len(
 ) -> Result<Added, Fail> {
     let mut bytes = header.to_vec(alloc)?;
     bytes.extend_from_slice(body(alloc, len)?.as_slice())?;
-    add(assembly, bytes.as_slice())
+    let d = Datagram {
+        from: CLIENT,
+        to: SERVER,
+        bytes: Bytes::from_vec(bytes),
+    };
+    add(assembly, &d)
 }
 
 #[test]
@@ -107,7 +113,7 @@ fn sixty_parts_from_the_last_are_whole_at_the_sixtieth(rt: HostRuntime) -> Resul
     assert_eq!(rt; datagrams.len(), 60);
     let mut assembly = Assembly::new(rt.alloc());
     for (earlier, d) in datagrams.as_slice().iter().rev().enumerate() {
-        let answer = add(&mut assembly, d.bytes.as_slice())?;
+        let answer = add(&mut assembly, d)?;
         if earlier < 59 {
             assert_eq!(rt; answer, Added::More);
             assert_eq!(rt; assembly.unfinished(), 1);
@@ -117,6 +123,25 @@ fn sixty_parts_from_the_last_are_whole_at_the_sixtieth(rt: HostRuntime) -> Resul
         }
     }
     assert_eq!(rt; assembly.unfinished(), 0);
+    Ok(())
+}
+
+#[test]
+fn a_reply_at_the_limit_is_put_together_of_64_parts(rt: HostRuntime) -> Result<(), Fail> {
+    let payload = body(rt.alloc(), MOST_REPLY)?;
+    let rid = Rid {
+        id: 9,
+        client: CLIENT,
+    };
+    let datagrams = reply_parts(rt.alloc(), SERVER, &rid, JBSQ, payload.as_slice())?;
+    assert_eq!(rt; datagrams.len(), 64);
+    let mut assembly = Assembly::new(rt.alloc());
+    let mut answer = Added::Repeat;
+    for d in datagrams.as_slice() {
+        assert_eq!(rt; (d.from, d.to), (SERVER, CLIENT));
+        answer = add(&mut assembly, d)?;
+    }
+    assert_eq!(rt; answer, Added::Whole(Bytes::from_vec(payload)));
     Ok(())
 }
 
@@ -171,7 +196,7 @@ fn the_first_of_257_messages_leaves_and_begins_anew(rt: HostRuntime) -> Result<(
     let second = [0x52, 8, 0x32, 0x40, 0, 0, 0, 1];
     let answer = add_len(rt.alloc(), &mut assembly, second, 1)?;
     assert_eq!(rt; answer, Added::Dropped(request(1)));
-    assert_eq!(rt; assembly.unfinished(), 256);
+    assert_eq!(rt; assembly.unfinished(), MOST_UNFINISHED);
     Ok(())
 }
 

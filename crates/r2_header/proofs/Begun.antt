@@ -5,27 +5,27 @@ use Rattle.std.proofs.lemmas.Bool.Decides.{nat_tests}
 use Rattle.r2_header.specs.declared.header.Header.{Header}
 use Rattle.r2_header.specs.Header.{IsValid, client_bytes, flags_of, kind_bytes, spelling}
 use Rattle.r2_header.specs.Laws.{BeginsWith, WhatIsReadIsSpelled}
-use Rattle.r2_header.specs.Reading.{client_at, fields_at, header_at, is_size, packet_of, u16_at, u32_at}
+use Rattle.r2_header.specs.Reading.{client_at, fields_at, header_at, is_size, packet_numbered, u16_at, u32_at}
 use Rattle.r2_header.specs.Table.{type_number}
 use Rattle.r2_header.proofs.Checks.{PassesAll, all_pass, ok_unless-ok}
 use Rattle.r2_header.proofs.Numbers.{u16_bytes-number, u32_bytes-number}
 use Rattle.r2_header.proofs.Tests.{and_parts, id_fits-true, is_within-true, last_fits-true}
 
 -- a type's number up to 7 is that of its type
-type_number-packet_of : (n : ℕ) → n ≤ 7 → type_number (packet_of n) ≡ n
-type_number-packet_of zero h = refl
-type_number-packet_of (suc zero) h = refl
-type_number-packet_of (suc (suc zero)) h = refl
-type_number-packet_of (suc (suc (suc zero))) h = refl
-type_number-packet_of (suc (suc (suc (suc zero)))) h = refl
-type_number-packet_of (suc (suc (suc (suc (suc zero))))) h = refl
-type_number-packet_of (suc (suc (suc (suc (suc (suc zero)))))) h = refl
-type_number-packet_of (suc (suc (suc (suc (suc (suc (suc zero))))))) h = refl
-type_number-packet_of (suc (suc (suc (suc (suc (suc (suc (suc n)))))))) h = absurd (omega arith)
+type_number-packet_numbered : (n : ℕ) → n ≤ 7 → type_number (packet_numbered n) ≡ n
+type_number-packet_numbered zero h = refl
+type_number-packet_numbered (suc zero) h = refl
+type_number-packet_numbered (suc (suc zero)) h = refl
+type_number-packet_numbered (suc (suc (suc zero))) h = refl
+type_number-packet_numbered (suc (suc (suc (suc zero)))) h = refl
+type_number-packet_numbered (suc (suc (suc (suc (suc zero))))) h = refl
+type_number-packet_numbered (suc (suc (suc (suc (suc (suc zero)))))) h = refl
+type_number-packet_numbered (suc (suc (suc (suc (suc (suc (suc zero))))))) h = refl
+type_number-packet_numbered (suc (suc (suc (suc (suc (suc (suc (suc n)))))))) h = absurd (omega arith)
 
 -- the third byte is its type's number and its policy
-kind_byte : (b : ℕ) → b / 16 ≤ 7 → type_number (packet_of (b / 16)) * 16 + b % 16 ≡ b
-kind_byte b h = let e = type_number-packet_of (b / 16) h in omega (arith, e)
+kind_byte : (b : ℕ) → b / 16 ≤ 7 → type_number (packet_numbered (b / 16)) * 16 + b % 16 ≡ b
+kind_byte b h = let e = type_number-packet_numbered (b / 16) h in omega (arith, e)
 
 -- the flags in a multiple of 0x40
 flags_quarter : (q b : ℕ) → q < 4 → b ≡ q * 64 → flags_of (b / 0x80 % 2 == 1) (b / 0x40 % 2 == 1) ≡ b
@@ -101,7 +101,7 @@ begins_16 a b c d e f g h i j k l rest ranges p =
     let flags = and_parts _ _ p.flags in
     record {
       room = omega arith;
-      fits = record { id = omega arith; client = (omega arith, omega arith) };
+      fits = record { id = omega arith; client = record { ip = omega arith; port = omega arith } };
       spells = record {
         valid = IsValid-passed _ _ p;
         same =

@@ -5,9 +5,10 @@ use Rattle.r2_base.specs.declared.addr.Addr.{Addr}
 use Rattle.r2_header.specs.declared.header.Header.{Header}
 use Rattle.r2_header.specs.declared.packet.Packet.{Packet}
 use Rattle.r2_header.specs.declared.packet.Packet.TheVariants.{Req0, Reply, ReqRdy, ReqN, Feedback, Reject, Ordering, Recover}
-use Rattle.r2_header.specs.Header.{client_bytes, flags_of, kind_bytes, spelling, u16_bytes, u32_bytes}
-use Rattle.r2_header.specs.Laws.{FitsClient, FitsFields}
-use Rattle.r2_header.specs.Reading.{client_at, fields_at, packet_of, u16_at, u32_at}
+use Rattle.r2_base.specs.Numbers.{u16_bytes, u32_bytes}
+use Rattle.r2_header.specs.Header.{client_bytes, flags_of, kind_bytes, spelling}
+use Rattle.r2_header.specs.Laws.{FitsClient, FitsHeader}
+use Rattle.r2_header.specs.Reading.{client_at, fields_at, packet_numbered, u16_at, u32_at}
 use Rattle.r2_header.specs.Table.{type_number}
 
 -- a header of these fields
@@ -20,15 +21,15 @@ same_header : (a a' : Packet) (b b' : ℕ) (c c' d d' : Bool) (e e' f f' : ℕ) 
 same_header a a' b b' c c' d d' e e' f f' g g' p q r s t u v = cc
 
 -- a type's number names it
-pub packet_of-type_number : (p : Packet) → packet_of (type_number p) ≡ p
-packet_of-type_number Req0 = refl
-packet_of-type_number Reply = refl
-packet_of-type_number ReqRdy = refl
-packet_of-type_number ReqN = refl
-packet_of-type_number Feedback = refl
-packet_of-type_number Reject = refl
-packet_of-type_number Ordering = refl
-packet_of-type_number Recover = refl
+pub packet_numbered-type_number : (p : Packet) → packet_numbered (type_number p) ≡ p
+packet_numbered-type_number Req0 = refl
+packet_numbered-type_number Reply = refl
+packet_numbered-type_number ReqRdy = refl
+packet_numbered-type_number ReqN = refl
+packet_numbered-type_number Feedback = refl
+packet_numbered-type_number Reject = refl
+packet_numbered-type_number Ordering = refl
+packet_numbered-type_number Recover = refl
 
 -- the byte of flags gives back the flag of the first part
 pub flags_of-first : (first last : Bool) → (flags_of first last / 0x80 % 2 == 1) ≡ first
@@ -56,17 +57,17 @@ client_at-spelling : (h : Header) (client : Option Addr) (rest : List ℕ) → h
 unfolding client_at spelling kind_bytes u16_bytes u32_bytes client_bytes u16_at u32_at
 client_at-spelling h None rest e fits = rw e refl
 client_at-spelling h (Some a) rest e fits =
-    let ip = big_number-reads_back 4 a.ip (u16_bytes a.port ++ 0 ∷ 0 ∷ rest) fits.0 in
-    let port = big_number-reads_back 2 a.port (0 ∷ 0 ∷ rest) fits.1 in
+    let ip = big_number-reads_back 4 a.ip (u16_bytes a.port ++ 0 ∷ 0 ∷ rest) fits.ip in
+    let port = big_number-reads_back 2 a.port (0 ∷ 0 ∷ rest) fits.port in
     rw (e, ip, port) refl
 
 -- the fields of the bytes of a header are the header's
-pub fields_at-spelling : (h : Header) (rest : List ℕ) → h.policy < 16 → h.number < 2 ^ 16 → FitsFields h → fields_at (spelling h ++ rest) ≡ h
+pub fields_at-spelling : (h : Header) (rest : List ℕ) → h.policy < 16 → h.number < 2 ^ 16 → FitsHeader h → fields_at (spelling h ++ rest) ≡ h
 unfolding fields_at spelling kind_bytes u16_bytes u16_at
 fields_at-spelling h rest policy number fits =
     let type : (type_number h.packet * 16 + h.policy) / 16 ≡ type_number h.packet = omega arith in
     same_header _ h.packet _ h.policy _ h.first _ h.last _ h.id _ h.number _ h.client
-    (ap packet_of type ∙ packet_of-type_number h.packet)
+    (ap packet_numbered type ∙ packet_numbered-type_number h.packet)
     (omega arith)
     (flags_of-first h.first h.last)
     (flags_of-last h.first h.last)

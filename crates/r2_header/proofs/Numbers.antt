@@ -1,7 +1,7 @@
 -- Numbers as bytes: written and read again, and read and written again.
 use Rattle.std.proofs.Common.{◌≡◌, ◌<◌, ◌+◌, ◌*◌, ◌/◌, ◌%◌, ℕ, List, [], ◌∷◌, refl, arith}
 use Rattle.byteorder.specs.Endian.{big_number}
-use Rattle.r2_header.specs.Header.{u16_bytes, u32_bytes}
+use Rattle.r2_base.specs.Numbers.{u16_bytes, u32_bytes}
 
 -- two bytes are those of their number
 pub u16_bytes-number : (a b : ℕ) (rest : List ℕ) → a < 256 → b < 256 → u16_bytes (big_number 2 (a ∷ b ∷ rest)) ≡ a ∷ b ∷ []

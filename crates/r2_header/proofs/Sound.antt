@@ -6,8 +6,9 @@ use Rattle.r2_base.specs.declared.addr.Addr.{Addr}
 use Rattle.r2_header.specs.declared.header.Header.{Header}
 use Rattle.r2_header.specs.declared.packet.Packet.{Packet}
 use Rattle.r2_header.specs.declared.packet.Packet.TheVariants.{Req0, Reply, ReqRdy, ReqN, Feedback, Reject, Ordering, Recover}
-use Rattle.r2_header.specs.Header.{IsValid, client_bytes, kind_bytes, size_with, spelling, u16_bytes, u32_bytes}
-use Rattle.r2_header.specs.Laws.{FitsFields, SpellingIsRead}
+use Rattle.r2_base.specs.Numbers.{u16_bytes, u32_bytes}
+use Rattle.r2_header.specs.Header.{IsValid, client_bytes, kind_bytes, size_with, spelling}
+use Rattle.r2_header.specs.Laws.{FitsHeader, SpellingIsRead}
 use Rattle.r2_header.specs.Reading.{field_checks, fields_at, first_fault, form_checks, header_at, is_zero_padded, is_size, ok_unless}
 use Rattle.r2_header.specs.Table.{type_number}
 use Rattle.r2_header.proofs.Checks.{PassesAll, none_fails}
@@ -98,7 +99,7 @@ spelling_is_read h bytes rest fits spells =
     (read ∙ ap (λ (n : ℕ). Ok (h, n)) (size-spelling h rest))
 
 -- where a valid header's bytes stand in front, they are read back
-pub read_back : (h : Header) (bytes rest : List ℕ) (n : ℕ) → FitsFields h → IsValid h → n ≡ size_with h.client → bytes ≡ spelling h ++ rest → header_at bytes ≡ Ok (h, n)
+pub read_back : (h : Header) (bytes rest : List ℕ) (n : ℕ) → FitsHeader h → IsValid h → n ≡ size_with h.client → bytes ≡ spelling h ++ rest → header_at bytes ≡ Ok (h, n)
 read_back h bytes rest n fits valid size e =
     let read = spelling_is_read h (spelling h) rest fits (record { valid = valid; same = refl }) in
     let counted : length (spelling h) ≡ n = length-spelling h ∙ sym size in

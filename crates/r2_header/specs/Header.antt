@@ -1,14 +1,15 @@
 -- The header grammar: which headers are valid, and the bytes that spell each.
 use Rattle.std.specs.Prelude.{◌≡◌, ℕ, ◌+◌, ◌*◌, ◌==◌, Bool, true, false, if◌then◌else◌, List, [], ◌∷◌, ◌++◌, Option, Some, None, is_some}
-use Rattle.byteorder.specs.Endian.{big_bytes}
 use Rattle.r2_base.specs.declared.addr.Addr.{Addr}
+use Rattle.r2_base.specs.Numbers.{u16_bytes, u32_bytes}
 use Rattle.r2_header.specs.declared.header.Header.{Header}
 use Rattle.r2_header.specs.declared.packet.Packet.{Packet}
-use Rattle.r2_header.specs.declared.packet.Packet.TheVariants.{Ordering, Reply}
+use Rattle.r2_header.specs.declared.packet.Packet.TheVariants.{Ordering}
+use Rattle.r2_header.specs.Layout.{short}
 use Rattle.r2_header.specs.Span.{IsWithin}
 use Rattle.r2_header.specs.Table.{type_number, policies, numbers}
 
--- the flag of the last part is set exactly where a first part counts one part; behind the first part it is free
+-- the flag of the last part is set exactly where a first part counts one part; after the first part it is free
 abbrev pub LastFits : Bool → Bool → ℕ → Type 0
 LastFits true last number = last ≡ (number == 1)
 LastFits false last number = Unit {0}
@@ -31,20 +32,12 @@ magic = 0x52
 
 -- the size of a header, by its client
 abbrev pub size_with : Option Addr → ℕ
-size_with None = 8
-size_with (Some a) = 16
+size_with None = short.size
+size_with (Some a) = short.size_with_client
 
 -- the byte of flags: first part 0x80, last part 0x40
 abbrev pub flags_of : Bool → Bool → ℕ
 flags_of first last = (if first then 0x80 else 0) + (if last then 0x40 else 0)
-
--- a number in two bytes
-unfoldable pub u16_bytes : ℕ → List ℕ
-u16_bytes n = big_bytes 2 n
-
--- a number in four bytes
-unfoldable pub u32_bytes : ℕ → List ℕ
-u32_bytes n = big_bytes 4 n
 
 -- the bytes of the client's address: ip, port and two zeros
 unfoldable pub client_bytes : Option Addr → List ℕ
@@ -65,7 +58,7 @@ pub record Spells (h : Header) (bytes : List ℕ) : Type 0 where
   pub valid : IsValid h
   pub same : bytes ≡ spelling h
 
--- the header of a reply in one part
-abbrev pub one_part_reply : ℕ → ℕ → Header
-one_part_reply policy id =
-    record { packet = Reply; policy = policy; first = true; last = true; id = id; number = 1; client = None }
+-- the header of a packet that is one part, the first and the last of its message
+abbrev pub one_part_header : Packet → ℕ → ℕ → Option Addr → Header
+one_part_header type policy id client =
+    record { packet = type; policy = policy; first = true; last = true; id = id; number = 1; client = client }

@@ -1,6 +1,9 @@
+pub mod Policy
+pub mod Layout
 pub mod Span
 pub mod Table
 pub mod Header
+pub mod Notices
 pub mod Reading
 pub mod Laws
 pub mod Faults

@@ -1,5 +1,5 @@
 -- What bytes read as: the fields that stand in them, and the checks in their order.
-use Rattle.std.specs.Prelude.{ℕ, ◌≤◌, ◌/◌, ◌%◌, ◌==◌, Bool, true, false, not, ◌&&◌, ◌||◌, if◌then◌else◌, List, [], ◌∷◌, ◌++◌, Option, Some, None, is_some, Result, Ok, Err, drop, length, nat_le, slice_index}
+use Rattle.std.specs.Prelude.{ℕ, ◌+◌, ◌≤◌, ◌/◌, ◌%◌, ◌==◌, Bool, true, false, not, ◌&&◌, ◌||◌, if◌then◌else◌, List, [], ◌∷◌, ◌++◌, Option, Some, None, is_some, Result, Ok, Err, drop, length, nat_le, slice_index}
 use Rattle.byteorder.specs.Endian.{big_number}
 use Rattle.r2_base.specs.declared.addr.Addr.{Addr}
 use Rattle.r2_header.specs.declared.header.Header.{Header}
@@ -8,6 +8,7 @@ use Rattle.r2_header.specs.declared.header_fault.HeaderFault.TheVariants.{Short,
 use Rattle.r2_header.specs.declared.packet.Packet.{Packet}
 use Rattle.r2_header.specs.declared.packet.Packet.TheVariants.{Req0, Reply, ReqRdy, ReqN, Feedback, Reject, Ordering, Recover}
 use Rattle.r2_header.specs.Header.{magic}
+use Rattle.r2_header.specs.Layout.{short}
 use Rattle.r2_header.specs.Span.{is_within, has_number}
 use Rattle.r2_header.specs.Table.{first_counts, numbers, policies}
 
@@ -20,8 +21,8 @@ unfoldable pub u32_at : ℕ → List ℕ → ℕ
 u32_at place bytes = big_number 4 (drop place bytes)
 
 -- the type with a number up to 7 (a greater number is no type's, and `is_in_table` refuses it)
-abbrev pub packet_of : ℕ → Packet
-packet_of n =
+abbrev pub packet_numbered : ℕ → Packet
+packet_numbered n =
     if n == 0 then Req0
     else (if n == 1 then Reply
     else (if n == 2 then ReqRdy
@@ -31,21 +32,23 @@ packet_of n =
     else (if n == 6 then Ordering
     else Recover))))))
 
--- the client's address, which a header of 16 bytes carries
+-- the client's address, which only the greater header carries
 unfoldable pub client_at : List ℕ → Option Addr
 client_at bytes =
-    if slice_index bytes 1 == 16 then Some (record { ip = u32_at 8 bytes; port = u16_at 12 bytes }) else None
+    if slice_index bytes 1 == short.size_with_client
+    then Some (record { ip = u32_at short.ip bytes; port = u16_at short.port bytes })
+    else None
 
 -- the fields as they stand in the bytes
 unfoldable pub fields_at : List ℕ → Header
 fields_at bytes =
     record {
-      packet = packet_of (slice_index bytes 2 / 16);
-      policy = slice_index bytes 2 % 16;
-      first = slice_index bytes 3 / 0x80 % 2 == 1;
-      last = slice_index bytes 3 / 0x40 % 2 == 1;
-      id = u16_at 4 bytes;
-      number = u16_at 6 bytes;
+      packet = packet_numbered (slice_index bytes short.kind / 16);
+      policy = slice_index bytes short.kind % 16;
+      first = slice_index bytes short.flags / 0x80 % 2 == 1;
+      last = slice_index bytes short.flags / 0x40 % 2 == 1;
+      id = u16_at short.id bytes;
+      number = u16_at short.number bytes;
       client = client_at bytes;
     }
 
@@ -70,17 +73,17 @@ last_fits false last number = true
 
 -- the size is one of a header's two
 abbrev pub is_size : ℕ → Bool
-is_size n = n == 8 || n == 16
+is_size n = n == short.size || n == short.size_with_client
 
 -- the type exists, and goes with the policy, the size and the request id
 abbrev pub is_in_table : ℕ → Header → Bool
 is_in_table type h =
     nat_le type 7 && is_within (policies h.packet (is_some h.client)) h.policy && id_fits h.packet h.id
 
--- where the client's address stands in the bytes, the two behind it are zero
+-- where the client's address stands in the bytes, the two after it are zero
 abbrev pub is_zero_padded : List ℕ → Bool
 is_zero_padded bytes =
-    not (slice_index bytes 1 == 16) || (slice_index bytes 14 == 0 && slice_index bytes 15 == 0)
+    not (slice_index bytes 1 == short.size_with_client) || (slice_index bytes short.padding == 0 && slice_index bytes (short.padding + 1) == 0)
 
 -- a check, and the fault of what doesn't pass it
 pub record Check : Type 0 where
@@ -99,7 +102,7 @@ first_fault (c ∷ cs) = if c.passes then first_fault cs else Some c.fault
 -- the checks on the form: enough bytes, which begin as a header does
 abbrev pub form_checks : List ℕ → List Check
 form_checks bytes =
-    check Short (nat_le 8 (length bytes))
+    check Short (nat_le short.size (length bytes))
     ∷ check Magic (slice_index bytes 0 == magic)
     ∷ check Size (is_size (slice_index bytes 1))
     ∷ check Short (nat_le (slice_index bytes 1) (length bytes))
@@ -107,14 +110,14 @@ form_checks bytes =
 
 -- there are as many bytes as the size says
 pub record HasForm (bytes : List ℕ) : Type 0 where
-  pub least : 8 ≤ length bytes
+  pub least : short.size ≤ length bytes
   pub size : slice_index bytes 1 ≤ length bytes
 
 -- the checks on the fields, against the table of types
 abbrev pub field_checks : List ℕ → Header → List Check
 field_checks bytes h =
-    check TypeOrPolicy (is_in_table (slice_index bytes 2 / 16) h)
-    ∷ check Flags (slice_index bytes 3 % 0x40 == 0 && flags_fit h.packet h.first h.last)
+    check TypeOrPolicy (is_in_table (slice_index bytes short.kind / 16) h)
+    ∷ check Flags (slice_index bytes short.flags % 0x40 == 0 && flags_fit h.packet h.first h.last)
     ∷ check Count (is_within (numbers h.packet h.first) h.number && last_fits h.first h.last h.number)
     ∷ check Extension (is_zero_padded bytes)
     ∷ []

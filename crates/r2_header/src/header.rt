@@ -1,11 +1,11 @@
 use crate::Packet;
 use r2_base::Addr;
 
-/// What a packet says in front of its payload.
+/// What a packet says before its payload.
 #[derive(Clone, Copy, Debug, PartialEq, Eq)]
 pub struct Header {
     pub packet: Packet,
-    /// 0 FIXED, 1 JBSQ, 2 REPLICATED, 3 REPLICATED_READ.
+    /// `FIXED`, `JBSQ`, `REPLICATED` or `REPLICATED_READ`, of the module `policy`.
     pub policy: u8,
     /// Whether this is the first part of its message.
     pub first: bool,

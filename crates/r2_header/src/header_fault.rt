@@ -19,7 +19,7 @@ pub enum HeaderFault {
     Flags,
     /// The count or the number of the part is out of range, or the flag of the last part contradicts it.
     Count,
-    /// The bytes behind the client's address aren't zero.
+    /// The bytes after the client's address aren't zero.
     Extension,
 }
 

@@ -4,7 +4,10 @@
 mod header;
 mod header_fault;
 pub mod laws;
+mod layout;
+mod notices;
 mod packet;
+pub mod policy;
 mod reading;
 mod span;
 mod table;
@@ -12,6 +15,8 @@ mod writing;
 
 pub use header::Header;
 pub use header_fault::HeaderFault;
+pub use layout::HEADER_ROOM;
+pub use notices::{notice, one_part_header};
 pub use packet::Packet;
 pub use reading::read;
 pub use writing::write;

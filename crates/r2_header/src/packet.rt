@@ -7,7 +7,7 @@ pub enum Packet {
     Reply,
     /// A server's call for the other parts of a request.
     ReqRdy,
-    /// A part of a request behind its first.
+    /// A part of a request after its first.
     ReqN,
     /// A server's word to the router that a request was answered.
     Feedback,

@@ -4,7 +4,8 @@ ghost use Rattle.r2_header.specs.Table.{numbers};
 ghost use Rattle.r2_header.specs.Laws.{BeginsWith};
 ghost use Rattle.r2_header.specs.Reading.{HasForm, client_at, field_checks, fields_at, first_fault, flags_fit, form_checks, header_at, id_fits, is_zero_padded, is_in_table, is_size, last_fits};
 
-use crate::table::{first_counts, numbers, packet_of, policies};
+use crate::layout::SHORT;
+use crate::table::{first_counts, numbers, packet_numbered, policies};
 use crate::writing::MAGIC;
 use crate::{Header, HeaderFault, Packet};
 use byteorder::{BigEndian, ByteOrder};
@@ -34,7 +35,7 @@ fn form_fault(bytes: &[u8]) -> Option<HeaderFault>
     ensures fault { result ≡ first_fault (form_checks bytes.now) }
     ensures form { IfNone result (HasForm bytes.now) }
 {
-    if bytes.len() < 8 {
+    if bytes.len() < usize::from(SHORT.size) {
         return Some(HeaderFault::Short);
     }
     if bytes[0] != MAGIC {
@@ -52,7 +53,7 @@ fn form_fault(bytes: &[u8]) -> Option<HeaderFault>
 fn is_size(n: u8) -> bool
     ensures { result ≡ is_size n }
 {
-    n == 8 || n == 16
+    n == SHORT.size || n == SHORT.size_with_client
 }
 
 /// The fields as they stand in the bytes.
@@ -62,12 +63,12 @@ fn fields_at(bytes: &[u8]) -> Header
     ensures { result ≡ fields_at bytes.now }
 {
     Header {
-        packet: packet_of(bytes[2] / 16),
-        policy: bytes[2] % 16,
-        first: bytes[3] / 0x80 % 2 == 1,
-        last: bytes[3] / 0x40 % 2 == 1,
-        id: BigEndian::read_u16(&bytes[4..]),
-        number: BigEndian::read_u16(&bytes[6..]),
+        packet: packet_numbered(bytes[SHORT.kind] / 16),
+        policy: bytes[SHORT.kind] % 16,
+        first: bytes[SHORT.flags] / 0x80 % 2 == 1,
+        last: bytes[SHORT.flags] / 0x40 % 2 == 1,
+        id: BigEndian::read_u16(&bytes[SHORT.id..]),
+        number: BigEndian::read_u16(&bytes[SHORT.number..]),
         client: client_at(bytes),
     }
 }
@@ -78,12 +79,12 @@ fn client_at(bytes: &[u8]) -> Option<Addr>
     requires { HasForm bytes.now }
     ensures { result ≡ client_at bytes.now }
 {
-    if bytes[1] != 16 {
+    if bytes[1] != SHORT.size_with_client {
         return None;
     }
     Some(Addr {
-        ip: BigEndian::read_u32(&bytes[8..]),
-        port: BigEndian::read_u16(&bytes[12..]),
+        ip: BigEndian::read_u32(&bytes[SHORT.ip..]),
+        port: BigEndian::read_u16(&bytes[SHORT.port..]),
     })
 }
 
@@ -92,10 +93,10 @@ fn field_fault(bytes: &[u8], h: &Header) -> Option<HeaderFault>
     requires { HasForm bytes.now }
     ensures { result ≡ first_fault (field_checks bytes.now h.now) }
 {
-    if !is_in_table(bytes[2] / 16, h) {
+    if !is_in_table(bytes[SHORT.kind] / 16, h) {
         return Some(HeaderFault::TypeOrPolicy);
     }
-    if !flags_fit(bytes[3], h) {
+    if !flags_fit(bytes[SHORT.flags], h) {
         return Some(HeaderFault::Flags);
     }
     if !number_fits(h) {
@@ -150,12 +151,13 @@ fn last_fits(first: bool, last: bool, number: u16) -> bool
     !first || last == (number == 1)
 }
 
-/// Whether the bytes behind the client's address are zero, where the size has room for it.
+/// Whether the bytes after the client's address are zero, where the size has room for it.
 fn is_zero_padded(bytes: &[u8]) -> bool
     requires { HasForm bytes.now }
     ensures { result ≡ is_zero_padded bytes.now }
 {
-    bytes[1] != 16 || (bytes[14] == 0 && bytes[15] == 0)
+    bytes[1] != SHORT.size_with_client
+        || (bytes[SHORT.padding] == 0 && bytes[SHORT.padding + 1] == 0)
 }
 
 #[cfg(test)]

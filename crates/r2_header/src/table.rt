@@ -1,8 +1,10 @@
 ghost use Rattle.std.specs.Prelude.{◌≡◌};
-ghost use Rattle.r2_header.specs.Reading.{packet_of};
+ghost use Rattle.r2_header.specs.Reading.{packet_numbered};
+ghost use Rattle.r2_header.specs.Span.{from_to};
 ghost use Rattle.r2_header.specs.Table.{first_counts, later_numbers, numbers, policies, policies_with_client, policies_without_client, type_number};
 
 use crate::Packet;
+use crate::policy::{FIXED, JBSQ, REPLICATED, REPLICATED_READ};
 use crate::span::Span;
 
 /// No number at all.
@@ -28,8 +30,8 @@ pub fn type_number(packet: Packet) -> u8
 }
 
 /// The type of packet with a number up to 7.
-pub fn packet_of(number: u8) -> Packet
-    ensures { result ≡ packet_of number }
+pub fn packet_numbered(number: u8) -> Packet
+    ensures { result ≡ packet_numbered number }
 {
     match number {
         0 => Packet::Req0,
@@ -58,9 +60,9 @@ fn policies_with_client(packet: Packet) -> Span
     ensures { result ≡ policies_with_client packet }
 {
     match packet {
-        Packet::Req0 | Packet::Feedback => Span::from_to(1, 3),
-        Packet::ReqN => Span::from_to(2, 3),
-        Packet::Recover => Span::from_to(2, 2),
+        Packet::Req0 | Packet::Feedback => policies_from_to(JBSQ, REPLICATED_READ),
+        Packet::ReqN => policies_from_to(REPLICATED, REPLICATED_READ),
+        Packet::Recover => policies_from_to(REPLICATED, REPLICATED),
         Packet::Reply | Packet::ReqRdy | Packet::Reject | Packet::Ordering => NO_NUMBER,
     }
 }
@@ -69,15 +71,21 @@ fn policies_without_client(packet: Packet) -> Span
     ensures { result ≡ policies_without_client packet }
 {
     match packet {
-        Packet::Req0 | Packet::Reply | Packet::ReqN => Span::from_to(0, 3),
-        Packet::ReqRdy => Span::from_to(0, 1),
-        Packet::Reject => Span::from_to(1, 3),
-        Packet::Ordering => Span::from_to(2, 2),
+        Packet::Req0 | Packet::Reply | Packet::ReqN => policies_from_to(FIXED, REPLICATED_READ),
+        Packet::ReqRdy => policies_from_to(FIXED, JBSQ),
+        Packet::Reject => policies_from_to(JBSQ, REPLICATED_READ),
+        Packet::Ordering => policies_from_to(REPLICATED, REPLICATED),
         Packet::Feedback | Packet::Recover => NO_NUMBER,
     }
 }
 
-/// The counts of a type in a first part, or its numbers behind the first.
+fn policies_from_to(least: u8, most: u8) -> Span
+    ensures { result ≡ from_to least most }
+{
+    Span::from_to(u16::from(least), u16::from(most))
+}
+
+/// The counts of a type in a first part, or its numbers after the first.
 pub fn numbers(packet: Packet, first: bool) -> Span
     ensures { result ≡ numbers packet first }
 {
@@ -100,7 +108,7 @@ pub fn first_counts(packet: Packet) -> Span
     }
 }
 
-/// The numbers of parts that a type has behind the first part.
+/// The numbers of parts that a type has after the first part.
 fn later_numbers(packet: Packet) -> Span
     ensures { result ≡ later_numbers packet }
 {

@@ -7,16 +7,16 @@ use Rattle.std.proofs.lemmas.List.{get_or-set_other, get_or-set_same, length-set
 use Rattle.std.proofs.lemmas.List.FromFn.{fill_by_all, get_or-map-range_with_len, length-map-range_with_len}
 use Rattle.std.proofs.lemmas.Grind.{common_steps}
 use Rattle.r2_base.specs.declared.rid.Rid.{Rid}
-use Rattle.r2_jbsq.specs.declared.request.Request.{Request}
-use Rattle.r2_jbsq.specs.History.{Accept, Answer, Forward, Mark, open_at, packet_of, waiting}
-use Rattle.r2_jbsq.specs.Names.{same_rid}
+use Rattle.r2_jbsq.specs.declared.routed_request.RoutedRequest.{RoutedRequest}
+use Rattle.r2_jbsq.specs.History.{Accept, Answer, Forward, Mark, open_at, accepted_packet, waiting}
+use Rattle.r2_base.specs.Names.{same_rid}
 use Rattle.r2_jbsq.specs.Standing.{closed, has, is_known, put, queued, requests_in, row_at, standing_in, without}
-use Rattle.r2_jbsq.proofs.Marks.{names_without, names_without-absent, open_at-accept, open_at-answer, open_at-forward, packet_of-accept, packet_of-answer, packet_of-forward, waiting-accept, waiting-answer, waiting-forward}
-use Rattle.r2_jbsq.proofs.SameNames.{same_rid-same, same_rid-sym}
+use Rattle.r2_jbsq.proofs.Marks.{names_without, names_without-absent, open_at-accept, open_at-answer, open_at-forward, accepted_packet-accept, accepted_packet-answer, accepted_packet-forward, waiting-accept, waiting-answer, waiting-forward}
+use Rattle.r2_base.proofs.SameNames.{same_rid-same, same_rid-sym}
 
 -- the request of a name
-abbrev request_in : List Mark → Rid → Request
-request_in history rid = record { rid = rid; packet = packet_of history rid }
+abbrev request_in : List Mark → Rid → RoutedRequest
+request_in history rid = record { rid = rid; packet = accepted_packet history rid }
 
 -- names and their requests
 pub has-requests : (rid : Rid) (history : List Mark) (names : List Rid) → has rid (requests_in history names) ≡ list_any (same_rid rid) names
@@ -32,11 +32,11 @@ pub without-requests : (rid : Rid) (history : List Mark) (names : List Rid) → 
 unfolding without
 without-requests rid history [] = refl
 without-requests rid history (other ∷ names) =
-    ap (λ (rest : List Request). cond (not (same_rid rid other)) (request_in history other ∷ rest) rest) (without-requests rid history names)
+    ap (λ (rest : List RoutedRequest). cond (not (same_rid rid other)) (request_in history other ∷ rest) rest) (without-requests rid history names)
     ∙ both-ways (not (same_rid rid other)) history other (names_without rid names)
 
 -- the packets stay
-requests-same : (before behind : List Mark) (names : List Rid) → ((q : Rid) → packet_of behind q ≡ packet_of before q) → requests_in behind names ≡ requests_in before names
+requests-same : (before behind : List Mark) (names : List Rid) → ((q : Rid) → accepted_packet behind q ≡ accepted_packet before q) → requests_in behind names ≡ requests_in before names
 requests-same before behind [] same = refl
 requests-same before behind (rid ∷ names) same = rw (same rid, requests-same before behind names same) refl
 
@@ -53,7 +53,7 @@ requests-accept : (history : List Mark) (rid : Rid) (packet : List ℕ) (names :
 requests-accept history rid packet [] absent = refl
 requests-accept history rid packet (other ∷ names) absent =
     let apart : same_rid other rid ≡ false = same_rid-sym other rid ∙ or-false-left (same_rid rid other) (list_any (same_rid rid) names) absent in
-    rw (packet_of-accept history rid packet other, apart, requests-accept history rid packet names (or-false-right (same_rid rid other) (list_any (same_rid rid) names) absent)) refl
+    rw (accepted_packet-accept history rid packet other, apart, requests-accept history rid packet names (or-false-right (same_rid rid other) (list_any (same_rid rid) names) absent)) refl
 
 -- the rows of a history
 pub length-rows : (servers : ℕ) (history : List Mark) → length (standing_in servers history).rows ≡ servers
@@ -71,7 +71,7 @@ unfolding standing_in
 queue-in servers history = refl
 
 -- what has the rows and the queue of a history
-pub standing-is : (servers : ℕ) (history : List Mark) (rows : List (List Request)) (queue : List Request) → length rows ≡ servers
+pub standing-is : (servers : ℕ) (history : List Mark) (rows : List (List RoutedRequest)) (queue : List RoutedRequest) → length rows ≡ servers
     → ((k : ℕ) → k < servers → get_or rows k [] ≡ requests_in history (open_at k history)) → queue ≡ requests_in history (waiting history)
     → standing_in servers history ≡ record { rows = rows; queue = queue }
 unfolding standing_in
@@ -87,7 +87,7 @@ none-at p (x ∷ xs) zero d none h = or-false-left (p x) (list_any p xs) none
 none-at p (x ∷ xs) (suc k) d none h = none-at p xs k d (or-false-right (p x) (list_any p xs) none) (omega (arith, h))
 
 -- one place of the rows
-set-at : (rows : List (List Request)) (to : ℕ) (row : List Request) (k : ℕ) (b : Bool) → (k == to) ≡ b → to < length rows
+set-at : (rows : List (List RoutedRequest)) (to : ℕ) (row : List RoutedRequest) (k : ℕ) (b : Bool) → (k == to) ≡ b → to < length rows
     → get_or (set rows to row) k [] ≡ cond b row (get_or rows k [])
 set-at rows to row k true e inside =
     let same : k ≡ to = eqb-true k to e in
@@ -98,7 +98,7 @@ set-at rows to row k false e inside =
 
 -- the place of a server, by number or by test
 row-as : (servers : ℕ) (history : List Mark) (to : ℕ) (k : ℕ) (b : Bool) → (k == to) ≡ b → to < servers
-    → (change : List Request → List Request)
+    → (change : List RoutedRequest → List RoutedRequest)
     → cond b (change (row_at (standing_in servers history) to)) (requests_in history (open_at k history))
     ≡ cond b (change (requests_in history (open_at k history))) (requests_in history (open_at k history))
 row-as servers history to k true e inside change =
@@ -106,12 +106,12 @@ row-as servers history to k true e inside change =
 row-as servers history to k false e inside change = refl
 
 -- a place of the rows where one was changed
-row-changed : (servers : ℕ) (history : List Mark) (to : ℕ) (k : ℕ) → to < servers → k < servers → (change : List Request → List Request)
+row-changed : (servers : ℕ) (history : List Mark) (to : ℕ) (k : ℕ) → to < servers → k < servers → (change : List RoutedRequest → List RoutedRequest)
     → get_or (set (standing_in servers history).rows to (change (row_at (standing_in servers history) to))) k []
     ≡ cond (k == to) (change (requests_in history (open_at k history))) (requests_in history (open_at k history))
 row-changed servers history to k inside within change =
     set-at (standing_in servers history).rows to (change (row_at (standing_in servers history) to)) k (k == to) refl (omega (arith, inside, length-rows servers history))
-    ∙ (ap (λ (row : List Request). cond (k == to) (change (row_at (standing_in servers history) to)) row) (row-in servers history k within)
+    ∙ (ap (λ (row : List RoutedRequest). cond (k == to) (change (row_at (standing_in servers history) to)) row) (row-in servers history k within)
     ∙ row-as servers history to k (k == to) refl inside change)
 
 -- a request was accepted
@@ -130,10 +130,10 @@ absent-in-queue servers history rid new =
     ∙ (ap (has rid) (sym (queue-in servers history))
     ∙ or-false-right (list_any (has rid) (standing_in servers history).rows) (has rid (standing_in servers history).queue) new)
 
-pub new-packet : (history : List Mark) (rid : Rid) (packet : List ℕ) → packet_of (history ++ Accept rid packet ∷ []) rid ≡ packet
-new-packet history rid packet = packet_of-accept history rid packet rid ∙ rw (same_rid-same rid) refl
+pub new-packet : (history : List Mark) (rid : Rid) (packet : List ℕ) → accepted_packet (history ++ Accept rid packet ∷ []) rid ≡ packet
+new-packet history rid packet = accepted_packet-accept history rid packet rid ∙ rw (same_rid-same rid) refl
 
-pub accept-mark : (servers : ℕ) (history : List Mark) (request : Request) → is_known request.rid (standing_in servers history) ≡ false
+pub accept-mark : (servers : ℕ) (history : List Mark) (request : RoutedRequest) → is_known request.rid (standing_in servers history) ≡ false
     → standing_in servers (history ++ Accept request.rid request.packet ∷ []) ≡ queued request (standing_in servers history)
 accept-mark servers history request new =
     let behind : List Mark = history ++ Accept request.rid request.packet ∷ [] in
@@ -159,16 +159,16 @@ pub forward-mark : (servers : ℕ) (history : List Mark) (rid : Rid) (to : ℕ) 
     ≡ put (request_in history rid) to (record { rows = (standing_in servers history).rows; queue = without rid (standing_in servers history).queue })
 forward-mark servers history rid to inside =
     let behind : List Mark = history ++ Forward rid to ∷ [] in
-    let row : List Request = row_at (standing_in servers history) to ++ request_in history rid ∷ [] in
+    let row : List RoutedRequest = row_at (standing_in servers history) to ++ request_in history rid ∷ [] in
     standing-is servers behind (set (standing_in servers history).rows to row) (without rid (standing_in servers history).queue)
     (length-set (standing_in servers history).rows to row ∙ length-rows servers history)
     (λ k h.
     row-changed servers history to k inside h (λ r. r ++ request_in history rid ∷ [])
-    ∙ sym (requests-same history behind (open_at k behind) (packet_of-forward history rid to)
+    ∙ sym (requests-same history behind (open_at k behind) (accepted_packet-forward history rid to)
     ∙ (ap (requests_in history) (open_at-forward k history rid to) ∙ end-by (k == to) history rid (open_at k history))))
     (ap (without rid) (queue-in servers history)
     ∙ (without-requests rid history (waiting history)
-    ∙ sym (requests-same history behind (waiting behind) (packet_of-forward history rid to) ∙ ap (requests_in history) (waiting-forward history rid to))))
+    ∙ sym (requests-same history behind (waiting behind) (accepted_packet-forward history rid to) ∙ ap (requests_in history) (waiting-forward history rid to))))
 
 -- a server was done with a request
 less-by : (b : Bool) (history : List Mark) (rid : Rid) (names : List Rid)
@@ -180,12 +180,12 @@ pub answer-mark : (servers : ℕ) (history : List Mark) (rid : Rid) (from : ℕ)
     → standing_in servers (history ++ Answer rid from ∷ []) ≡ closed rid from (standing_in servers history)
 answer-mark servers history rid from inside =
     let behind : List Mark = history ++ Answer rid from ∷ [] in
-    let row : List Request = without rid (row_at (standing_in servers history) from) in
+    let row : List RoutedRequest = without rid (row_at (standing_in servers history) from) in
     standing-is servers behind (set (standing_in servers history).rows from row) (standing_in servers history).queue
     (length-set (standing_in servers history).rows from row ∙ length-rows servers history)
     (λ k h.
     row-changed servers history from k inside h (without rid)
-    ∙ sym (requests-same history behind (open_at k behind) (packet_of-answer history rid from)
+    ∙ sym (requests-same history behind (open_at k behind) (accepted_packet-answer history rid from)
     ∙ (ap (requests_in history) (open_at-answer k history rid from) ∙ less-by (k == from) history rid (open_at k history))))
     (queue-in servers history
-    ∙ sym (requests-same history behind (waiting behind) (packet_of-answer history rid from) ∙ ap (requests_in history) (waiting-answer history rid from)))
+    ∙ sym (requests-same history behind (waiting behind) (accepted_packet-answer history rid from) ∙ ap (requests_in history) (waiting-answer history rid from)))

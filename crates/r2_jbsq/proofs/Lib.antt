@@ -1,5 +1,4 @@
 pub mod Choices
-pub mod SameNames
 pub mod Copies
 pub mod Index
 pub mod Freed
@@ -11,3 +10,5 @@ pub mod Histories
 pub mod Steps
 pub mod Runs
 pub mod Closing
+pub mod Packets
+pub mod Turns

@@ -4,9 +4,9 @@ use Rattle.std.specs.Prelude.{◌==◌, ◌&&◌, ◌||◌, not}
 use Rattle.std.specs.List.{filter, list_any}
 use Rattle.std.proofs.lemmas.List.Folds.{list_any-append}
 use Rattle.r2_base.specs.declared.rid.Rid.{Rid}
-use Rattle.r2_jbsq.specs.History.{Accept, Answer, Forward, Mark, is_accept_of, is_answer_of, is_move_of, open_at, packet_of, waiting}
-use Rattle.r2_jbsq.specs.Names.{same_rid}
-use Rattle.r2_jbsq.proofs.SameNames.{same_rid-sym}
+use Rattle.r2_jbsq.specs.History.{Accept, Answer, Forward, Mark, is_accept_of, is_answer_of, is_move_of, open_at, accepted_packet, waiting}
+use Rattle.r2_base.specs.Names.{same_rid}
+use Rattle.r2_base.proofs.SameNames.{same_rid-sym}
 
 -- these names without one
 abbrev pub names_without : Rid → List Rid → List Rid
@@ -133,31 +133,31 @@ last-packet true false false old new rest = refl
 last-packet false b true old new rest = refl
 last-packet false b false old new rest = refl
 
-pub packet_of-accept : (history : List Mark) (rid : Rid) (packet : List ℕ) (q : Rid)
-    → packet_of (history ++ Accept rid packet ∷ []) q ≡ cond (same_rid q rid) packet (packet_of history q)
-unfolding packet_of
-packet_of-accept [] rid packet q = rw (and-true (same_rid q rid)) refl
-packet_of-accept (Accept other o ∷ behind) rid packet q =
-    rw (any-push (is_accept_of q) behind (Accept rid packet), packet_of-accept behind rid packet q)
-    (last-packet (same_rid q other) (list_any (is_accept_of q) behind) (same_rid q rid) o packet (packet_of behind q))
-packet_of-accept (Forward other at ∷ behind) rid packet q = packet_of-accept behind rid packet q
-packet_of-accept (Answer other from ∷ behind) rid packet q = packet_of-accept behind rid packet q
+pub accepted_packet-accept : (history : List Mark) (rid : Rid) (packet : List ℕ) (q : Rid)
+    → accepted_packet (history ++ Accept rid packet ∷ []) q ≡ cond (same_rid q rid) packet (accepted_packet history q)
+unfolding accepted_packet
+accepted_packet-accept [] rid packet q = rw (and-true (same_rid q rid)) refl
+accepted_packet-accept (Accept other o ∷ behind) rid packet q =
+    rw (any-push (is_accept_of q) behind (Accept rid packet), accepted_packet-accept behind rid packet q)
+    (last-packet (same_rid q other) (list_any (is_accept_of q) behind) (same_rid q rid) o packet (accepted_packet behind q))
+accepted_packet-accept (Forward other at ∷ behind) rid packet q = accepted_packet-accept behind rid packet q
+accepted_packet-accept (Answer other from ∷ behind) rid packet q = accepted_packet-accept behind rid packet q
 
-pub packet_of-forward : (history : List Mark) (rid : Rid) (to : ℕ) (q : Rid) → packet_of (history ++ Forward rid to ∷ []) q ≡ packet_of history q
-unfolding packet_of
-packet_of-forward [] rid to q = refl
-packet_of-forward (Accept other o ∷ behind) rid to q =
-    rw (any-same (is_accept_of q) behind (Forward rid to) refl, packet_of-forward behind rid to q) refl
-packet_of-forward (Forward other at ∷ behind) rid to q = packet_of-forward behind rid to q
-packet_of-forward (Answer other from ∷ behind) rid to q = packet_of-forward behind rid to q
+pub accepted_packet-forward : (history : List Mark) (rid : Rid) (to : ℕ) (q : Rid) → accepted_packet (history ++ Forward rid to ∷ []) q ≡ accepted_packet history q
+unfolding accepted_packet
+accepted_packet-forward [] rid to q = refl
+accepted_packet-forward (Accept other o ∷ behind) rid to q =
+    rw (any-same (is_accept_of q) behind (Forward rid to) refl, accepted_packet-forward behind rid to q) refl
+accepted_packet-forward (Forward other at ∷ behind) rid to q = accepted_packet-forward behind rid to q
+accepted_packet-forward (Answer other from ∷ behind) rid to q = accepted_packet-forward behind rid to q
 
-pub packet_of-answer : (history : List Mark) (rid : Rid) (from : ℕ) (q : Rid) → packet_of (history ++ Answer rid from ∷ []) q ≡ packet_of history q
-unfolding packet_of
-packet_of-answer [] rid from q = refl
-packet_of-answer (Accept other o ∷ behind) rid from q =
-    rw (any-same (is_accept_of q) behind (Answer rid from) refl, packet_of-answer behind rid from q) refl
-packet_of-answer (Forward other at ∷ behind) rid from q = packet_of-answer behind rid from q
-packet_of-answer (Answer other at ∷ behind) rid from q = packet_of-answer behind rid from q
+pub accepted_packet-answer : (history : List Mark) (rid : Rid) (from : ℕ) (q : Rid) → accepted_packet (history ++ Answer rid from ∷ []) q ≡ accepted_packet history q
+unfolding accepted_packet
+accepted_packet-answer [] rid from q = refl
+accepted_packet-answer (Accept other o ∷ behind) rid from q =
+    rw (any-same (is_accept_of q) behind (Answer rid from) refl, accepted_packet-answer behind rid from q) refl
+accepted_packet-answer (Forward other at ∷ behind) rid from q = accepted_packet-answer behind rid from q
+accepted_packet-answer (Answer other at ∷ behind) rid from q = accepted_packet-answer behind rid from q
 
 -- a name that isn't among these
 or-left : (a b : Bool) → (a || b) ≡ false → a ≡ false

@@ -6,22 +6,22 @@ use Rattle.std.proofs.lemmas.List.{get_or-replicate, length-map, length-replicat
 use Rattle.std.proofs.lemmas.List.Sums.{sum_by-cons}
 use Rattle.r2_base.specs.declared.event.Event.{Event}
 use Rattle.r2_base.specs.declared.rid.Rid.{Rid}
-use Rattle.r2_jbsq.specs.declared.request.Request.{Request}
-use Rattle.r2_jbsq.specs.declared.setup.Setup.{Setup}
+use Rattle.r2_jbsq.specs.declared.routed_request.RoutedRequest.{RoutedRequest}
+use Rattle.r2_jbsq.specs.declared.router_setup.RouterSetup.{RouterSetup}
 use Rattle.r2_jbsq.specs.Answer.{history_behind, marks, standing_of}
-use Rattle.r2_jbsq.specs.History.{Answer, Mark, open_at, packet_of, waiting}
+use Rattle.r2_jbsq.specs.History.{Answer, Mark, open_at, accepted_packet, waiting}
 use Rattle.r2_jbsq.specs.Laws.{AddsUp, AnsweredRequestsAreNew, CountsAddUp, HoldsAtMost, RequestsWaitOnlyWhileAllAreFull, ServersHoldAtMostN, WaitsOnlyWhileFull, open_among}
-use Rattle.r2_jbsq.specs.Names.{same_rid}
+use Rattle.r2_base.specs.Names.{same_rid}
 use Rattle.r2_jbsq.specs.Standing.{Standing, closed, has, is_known, requests_in, row_at, standing_in}
 use Rattle.r2_jbsq.specs.State.{IsSound, RouterState, StandsFor, begin, held_in, turned}
 use Rattle.r2_jbsq.proofs.Histories.{answer-mark, has-requests, queue-in, row-in, standing-is}
 use Rattle.r2_jbsq.proofs.Index.{known-closed}
-use Rattle.r2_jbsq.proofs.SameNames.{same_rid-same}
+use Rattle.r2_base.proofs.SameNames.{same_rid-same}
 use Rattle.r2_jbsq.proofs.Sound.{begin-sound, turned-sound}
 use Rattle.r2_jbsq.proofs.Steps.{turned-setup, turned-stands}
 
 -- a new router stands for the empty history
-pub begin-stands : (setup : Setup) → StandsFor (begin setup) []
+pub begin-stands : (setup : RouterSetup) → StandsFor (begin setup) []
 unfolding open_at waiting
 begin-stands setup =
     record {
@@ -34,35 +34,35 @@ begin-stands setup =
     }
 
 -- some sound router stands for the history
-record Reached (setup : Setup) (history : List Mark) : Type 0 where
+record Reached (setup : RouterSetup) (history : List Mark) : Type 0 where
   router : RouterState
   same : router.setup ≡ setup
   stands : StandsFor router history
   sound : IsSound router
 
-one-more : (setup : Setup) (history : List Mark) (event : Event) → Reached setup history → Reached setup (history ++ marks setup history event)
+one-more : (setup : RouterSetup) (history : List Mark) (event : Event) → Reached setup history → Reached setup (history ++ marks setup history event)
 one-more setup history event k =
     record {
       router = turned k.router event;
       same = turned-setup k.router event ∙ k.same;
-      stands = subst (λ (s : Setup). StandsFor (turned k.router event) (history ++ marks s history event)) k.same (turned-stands k.router history event k.stands);
+      stands = subst (λ (s : RouterSetup). StandsFor (turned k.router event) (history ++ marks s history event)) k.same (turned-stands k.router history event k.stands);
       sound = turned-sound k.router event k.sound;
     }
 
-all-more : (setup : Setup) (history : List Mark) (events : List Event) → Reached setup history → Reached setup (history_behind setup history events)
+all-more : (setup : RouterSetup) (history : List Mark) (events : List Event) → Reached setup history → Reached setup (history_behind setup history events)
 unfolding history_behind
 all-more setup history [] k = k
 all-more setup history (event ∷ more) k = all-more setup (history ++ marks setup history event) more (one-more setup history event k)
 
-reached : (setup : Setup) (events : List Event) → Reached setup (history_behind setup [] events)
+reached : (setup : RouterSetup) (events : List Event) → Reached setup (history_behind setup [] events)
 reached setup events =
     all-more setup [] events (record { router = begin setup; same = refl; stands = begin-stands setup; sound = begin-sound setup })
 
 -- the sum over all servers
-abbrev request_in : List Mark → Rid → Request
-request_in history rid = record { rid = rid; packet = packet_of history rid }
+abbrev request_in : List Mark → Rid → RoutedRequest
+request_in history rid = record { rid = rid; packet = accepted_packet history rid }
 
-sums : (rows : ℕ → List Request) (numbers : ℕ → ℕ) → ((server : ℕ) → length (rows server) ≡ numbers server) → (servers : List ℕ)
+sums : (rows : ℕ → List RoutedRequest) (numbers : ℕ → ℕ) → ((server : ℕ) → length (rows server) ≡ numbers server) → (servers : List ℕ)
     → sum_by length (map rows servers) ≡ sum (map numbers servers)
 sums rows numbers same [] = refl
 sums rows numbers same (server ∷ more) =
@@ -75,9 +75,9 @@ held-in servers history =
     (λ server. length-map (open_at server history) (λ (rid : Rid). request_in history rid)) (range_with_len 0 servers)
 
 -- the numbers of a history are those of its router
-module _ (setup : Setup) (history : List Mark) (k : Reached setup history) where
+module _ (setup : RouterSetup) (history : List Mark) (k : Reached setup history) where
   is : k.router.standing ≡ standing_of setup history
-  is = k.stands.standing ∙ ap (λ (s : Setup). standing_of s history) k.same
+  is = k.stands.standing ∙ ap (λ (s : RouterSetup). standing_of s history) k.same
 
   open-length : (server : ℕ) → server < length setup.servers → length (row_at k.router.standing server) ≡ length (open_at server history)
   open-length server inside =
@@ -90,16 +90,16 @@ module _ (setup : Setup) (history : List Mark) (k : Reached setup history) where
       ∙ (ap length (queue-in (length setup.servers) history) ∙ length-map (waiting history) (λ (rid : Rid). request_in history rid))
 
   has-row : (server : ℕ) → server < length setup.servers → server < length k.router.standing.rows
-  has-row server inside = omega (arith, inside, k.sound.rows, ap (λ (s : Setup). length s.servers) k.same)
+  has-row server inside = omega (arith, inside, k.sound.rows, ap (λ (s : RouterSetup). length s.servers) k.same)
 
   holds : HoldsAtMost setup.n (length setup.servers) history
   holds server inside =
-      omega (arith, k.sound.within server [] (has-row server inside), open-length server inside, ap (λ (s : Setup). s.n) k.same)
+      omega (arith, k.sound.within server [] (has-row server inside), open-length server inside, ap (λ (s : RouterSetup). s.n) k.same)
 
   waits : WaitsOnlyWhileFull setup.n (length setup.servers) history
   waits some server inside =
       let full : length (row_at k.router.standing server) ≡ k.router.setup.n = k.sound.full (omega (arith, some, waiting-length)) server [] (has-row server inside) in
-      sym (open-length server inside) ∙ (full ∙ ap (λ (s : Setup). s.n) k.same)
+      sym (open-length server inside) ∙ (full ∙ ap (λ (s : RouterSetup). s.n) k.same)
 
   held : held_in k.router.standing ≡ open_among (length setup.servers) history
   held = ap held_in is ∙ held-in (length setup.servers) history

@@ -2,7 +2,7 @@
 use Rattle.std.specs.Prelude.{ℕ, ◌==◌, ◌&&◌, Bool, true, false, not, if◌then◌else◌, List, [], ◌∷◌}
 use Rattle.std.specs.List.{list_any}
 use Rattle.r2_base.specs.declared.rid.Rid.{Rid}
-use Rattle.r2_jbsq.specs.Names.{same_rid}
+use Rattle.r2_base.specs.Names.{same_rid}
 
 -- a request was accepted, with the packet that goes to a server; it went to a server; that server was done with it. A server
 -- is named by its place in the router's list
@@ -45,12 +45,12 @@ waiting (Forward rid to ∷ behind) = waiting behind
 waiting (Answer rid from ∷ behind) = waiting behind
 
 -- the packet with which a request was accepted last
-unfoldable pub packet_of : List Mark → Rid → List ℕ
-packet_of [] rid = []
-packet_of (Accept other packet ∷ behind) rid =
-    if same_rid rid other && not (list_any (is_accept_of rid) behind) then packet else packet_of behind rid
-packet_of (Forward other to ∷ behind) rid = packet_of behind rid
-packet_of (Answer other from ∷ behind) rid = packet_of behind rid
+unfoldable pub accepted_packet : List Mark → Rid → List ℕ
+accepted_packet [] rid = []
+accepted_packet (Accept other packet ∷ behind) rid =
+    if same_rid rid other && not (list_any (is_accept_of rid) behind) then packet else accepted_packet behind rid
+accepted_packet (Forward other to ∷ behind) rid = accepted_packet behind rid
+accepted_packet (Answer other from ∷ behind) rid = accepted_packet behind rid
 
 -- the kinds of marks
 abbrev pub is_accept : Mark → Bool

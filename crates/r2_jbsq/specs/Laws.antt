@@ -1,13 +1,19 @@
 -- What holds of every history of a router, whatever events come.
 use Rattle.std.specs.Prelude.{◌≡◌, ℕ, ◌+◌, ◌<◌, ◌≤◌, false, true, List, [], ◌∷◌, ◌++◌, length, count_by, map, sum}
 use Rattle.std.specs.List.{list_any, range_with_len}
+use Rattle.r2_base.specs.declared.datagram.Datagram.{Datagram}
 use Rattle.r2_base.specs.declared.event.Event.{Event}
-use Rattle.r2_jbsq.specs.declared.setup.Setup.{Setup}
+use Rattle.r2_base.specs.declared.event.Event.TheVariants.{Datagram as DatagramEvent, Quiet}
+use Rattle.r2_jbsq.specs.declared.router_setup.RouterSetup.{RouterSetup}
 use Rattle.r2_base.specs.declared.rid.Rid.{Rid}
 use Rattle.r2_jbsq.specs.Answer.{history_behind, standing_of}
 use Rattle.r2_jbsq.specs.History.{Answer, Mark, is_accept, is_answer, is_forward, open_at, waiting}
-use Rattle.r2_jbsq.specs.Names.{same_rid}
+use Rattle.r2_base.specs.Names.{same_rid}
+use Rattle.r2_header.specs.Reading.{header_at}
+use Rattle.r2_jbsq.specs.Packets.{is_feedback, is_req0, reads_as}
 use Rattle.r2_jbsq.specs.Standing.{is_known}
+use Rattle.r2_jbsq.specs.State.{RouterState}
+use Rattle.r2_jbsq.specs.Turns.{IsIgnored}
 
 -- how many requests are open, at all of so many servers together
 abbrev pub open_among : ℕ → List Mark → ℕ
@@ -30,18 +36,27 @@ pub record AddsUp (servers : ℕ) (history : List Mark) : Type 0 where
 -- so it is behind any events
 abbrev pub ServersHoldAtMostN : Type 0
 ServersHoldAtMostN =
-    (setup : Setup) (events : List Event) → HoldsAtMost setup.n (length setup.servers) (history_behind setup [] events)
+    (setup : RouterSetup) (events : List Event) → HoldsAtMost setup.n (length setup.servers) (history_behind setup [] events)
 
 abbrev pub RequestsWaitOnlyWhileAllAreFull : Type 0
 RequestsWaitOnlyWhileAllAreFull =
-    (setup : Setup) (events : List Event) → WaitsOnlyWhileFull setup.n (length setup.servers) (history_behind setup [] events)
+    (setup : RouterSetup) (events : List Event) → WaitsOnlyWhileFull setup.n (length setup.servers) (history_behind setup [] events)
 
 abbrev pub CountsAddUp : Type 0
-CountsAddUp = (setup : Setup) (events : List Event) → AddsUp (length setup.servers) (history_behind setup [] events)
+CountsAddUp = (setup : RouterSetup) (events : List Event) → AddsUp (length setup.servers) (history_behind setup [] events)
 
 -- a request that was open at a server is neither open nor waits, once that server has answered it: its name is a new one again
 abbrev pub AnsweredRequestsAreNew : Type 0
 AnsweredRequestsAreNew =
-    (setup : Setup) (events : List Event) (rid : Rid) (server : ℕ) → server < length setup.servers
+    (setup : RouterSetup) (events : List Event) (rid : Rid) (server : ℕ) → server < length setup.servers
     → list_any (same_rid rid) (open_at server (history_behind setup [] events)) ≡ true
     → is_known rid (standing_of setup (history_behind setup [] events ++ Answer rid server ∷ [])) ≡ false
+
+-- what a router ignores, whatever it is
+pub record IgnoresOthers (r : RouterState) : Type 0 where
+  pub packets : (d : Datagram) → reads_as is_req0 (header_at d.bytes) ≡ false → reads_as is_feedback (header_at d.bytes) ≡ false → IsIgnored r (DatagramEvent d)
+  pub quiet : IsIgnored r Quiet
+
+-- bytes that are neither a request nor feedback under the policy JBSQ are ignored, and that nothing came
+abbrev pub OthersAreIgnored : Type 0
+OthersAreIgnored = (r : RouterState) → IgnoresOthers r

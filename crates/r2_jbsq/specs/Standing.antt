@@ -2,18 +2,18 @@
 use Rattle.std.specs.Prelude.{◌≡◌, ℕ, ◌&&◌, ◌||◌, Bool, not, nat_le, nat_lt, List, [], ◌∷◌, ◌++◌, length, drop, replicate, map, position, slice_index_or, slice_set, Option, Some, None}
 use Rattle.std.specs.List.{filter, list_all, list_any, range_with_len}
 use Rattle.r2_base.specs.declared.rid.Rid.{Rid}
-use Rattle.r2_jbsq.specs.declared.request.Request.{Request}
-use Rattle.r2_jbsq.specs.History.{Mark, open_at, packet_of, waiting}
-use Rattle.r2_jbsq.specs.Names.{same_rid}
+use Rattle.r2_jbsq.specs.declared.routed_request.RoutedRequest.{RoutedRequest}
+use Rattle.r2_jbsq.specs.History.{Mark, open_at, accepted_packet, waiting}
+use Rattle.r2_base.specs.Names.{same_rid}
 
 -- the requests that are open, a row for each server, and those that wait, the oldest in front
 pub record Standing : Type 0 where
-  pub rows : List (List Request)
-  pub queue : List Request
+  pub rows : List (List RoutedRequest)
+  pub queue : List RoutedRequest
 
 -- the requests of these names, with their packets
-abbrev pub requests_in : List Mark → List Rid → List Request
-requests_in history rids = map (λ rid. record { rid = rid; packet = packet_of history rid }) rids
+abbrev pub requests_in : List Mark → List Rid → List RoutedRequest
+requests_in history rids = map (λ rid. record { rid = rid; packet = accepted_packet history rid }) rids
 
 -- what is open at so many servers and what waits by a history
 unfoldable pub standing_in : ℕ → List Mark → Standing
@@ -24,11 +24,11 @@ standing_in servers history =
     }
 
 -- whether this is the request of this name
-abbrev pub is_for : Rid → Request → Bool
+abbrev pub is_for : Rid → RoutedRequest → Bool
 is_for rid request = same_rid rid request.rid
 
 -- whether a request of this name is among these
-abbrev pub has : Rid → List Request → Bool
+abbrev pub has : Rid → List RoutedRequest → Bool
 has rid requests = list_any (is_for rid) requests
 
 -- whether a request of this name is open at some server or waits
@@ -36,19 +36,19 @@ abbrev pub is_known : Rid → Standing → Bool
 is_known rid s = list_any (has rid) s.rows || has rid s.queue
 
 -- the requests that are open at a server
-abbrev pub row_at : Standing → ℕ → List Request
+abbrev pub row_at : Standing → ℕ → List RoutedRequest
 row_at s server = slice_index_or s.rows server []
 
 -- these requests without that of this name
-unfoldable pub without : Rid → List Request → List Request
+unfoldable pub without : Rid → List RoutedRequest → List RoutedRequest
 without rid requests = filter (λ request. not (is_for rid request)) requests
 
 -- whether a server holds fewer than n requests, and no more than any other does
-abbrev pub is_freest : ℕ → List (List Request) → List Request → Bool
+abbrev pub is_freest : ℕ → List (List RoutedRequest) → List RoutedRequest → Bool
 is_freest n rows row = nat_lt (length row) n && list_all (λ other. nat_le (length row) (length other)) rows
 
 -- the server that a request goes to: the first of those that hold the fewest, where they hold fewer than n
-unfoldable pub chosen : ℕ → List (List Request) → Option ℕ
+unfoldable pub chosen : ℕ → List (List RoutedRequest) → Option ℕ
 chosen n rows = position (is_freest n rows) rows
 
 -- a server is done with a request
@@ -56,34 +56,34 @@ abbrev pub closed : Rid → ℕ → Standing → Standing
 closed rid server s = record s { rows = slice_set s.rows server (without rid (row_at s server)) }
 
 -- a request goes to a server
-abbrev pub put : Request → ℕ → Standing → Standing
+abbrev pub put : RoutedRequest → ℕ → Standing → Standing
 put request server s = record s { rows = slice_set s.rows server (row_at s server ++ request ∷ []) }
 
 -- a request waits
-abbrev pub queued : Request → Standing → Standing
+abbrev pub queued : RoutedRequest → Standing → Standing
 queued request s = record s { queue = s.queue ++ request ∷ [] }
 
 -- the first of those that wait
-abbrev pub first_of : List Request → Option Request
+abbrev pub first_of : List RoutedRequest → Option RoutedRequest
 first_of [] = None
 first_of (request ∷ more) = Some request
 
 -- the request that may go to a server now, and that server
-abbrev pub next_by : Option Request → Option ℕ → Option (Request × ℕ)
+abbrev pub next_by : Option RoutedRequest → Option ℕ → Option (RoutedRequest × ℕ)
 next_by (Some request) (Some server) = Some (request, server)
 next_by (Some request) None = None
 next_by None server = None
 
-unfoldable pub next : ℕ → Standing → Option (Request × ℕ)
+unfoldable pub next : ℕ → Standing → Option (RoutedRequest × ℕ)
 next n s = next_by (first_of s.queue) (chosen n s.rows)
 
 -- a request beside a server
-abbrev pub beside : ℕ → Option Request → Option (Request × ℕ)
+abbrev pub beside : ℕ → Option RoutedRequest → Option (RoutedRequest × ℕ)
 beside server (Some request) = Some (request, server)
 beside server None = None
 
 -- the first of those that wait goes to a server
-abbrev pub gone : Option Request → ℕ → Standing → Standing
+abbrev pub gone : Option RoutedRequest → ℕ → Standing → Standing
 gone (Some request) server s = put request server (record s { queue = drop 1 s.queue })
 gone None server s = s
 
@@ -95,6 +95,6 @@ abbrev pub nothing_open : ℕ → Standing
 nothing_open servers = record { rows = replicate servers []; queue = [] }
 
 -- these are the names of the requests that are open and wait
-abbrev pub IsIndex : List Rid → List (List Request) → List Request → Type 0
+abbrev pub IsIndex : List Rid → List (List RoutedRequest) → List RoutedRequest → Type 0
 IsIndex names rows queue =
     (rid : Rid) → list_any (same_rid rid) names ≡ is_known rid (record { rows = rows; queue = queue })

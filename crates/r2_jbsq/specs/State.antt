@@ -1,20 +1,22 @@
 -- What a router is at a moment, the history that it stands for, and what a step makes of it.
-use Rattle.std.specs.Prelude.{◌≡◌, ℕ, ◌+◌, ◌<◌, ◌≤◌, List, length, drop, count_by, sum_by, true, false, Option, Some, None}
+use Rattle.std.specs.Prelude.{◌≡◌, ℕ, ◌+◌, ◌*◌, ◌<◌, ◌≤◌, List, length, drop, count_by, sum_by, true, false, Option, Some, None}
 use Rattle.std.specs.List.{All}
 use Rattle.r2_base.specs.declared.event.Event.{Event}
 use Rattle.r2_base.specs.declared.rid.Rid.{Rid}
-use Rattle.r2_jbsq.specs.declared.request.Request.{Request}
-use Rattle.r2_jbsq.specs.declared.setup.Setup.{Setup}
-use Rattle.r2_jbsq.specs.declared.step.Step.{Step}
-use Rattle.r2_jbsq.specs.declared.step.Step.TheVariants as step
-use Rattle.r2_jbsq.specs.Answer.{most_waiting, standing_of, step_at}
+use Rattle.r2_jbsq.specs.declared.routed_request.RoutedRequest.{RoutedRequest}
+use Rattle.r2_jbsq.specs.declared.router_setup.RouterSetup.{RouterSetup}
+use Rattle.r2_jbsq.specs.declared.decision.Decision.{Decision}
+use Rattle.r2_jbsq.specs.declared.decision.Decision.TheVariants as decision
+use Rattle.r2_jbsq.specs.Answer.{decision_at, standing_of}
 use Rattle.r2_jbsq.specs.History.{Mark, is_accept, is_answer, is_forward}
+use Rattle.r2_jbsq.specs.Limits.{greatest_n, most_servers, most_waiting}
+use Rattle.r2_jbsq.specs.Packets.{HoldsRequests}
 use Rattle.r2_jbsq.specs.Standing.{Standing, chosen, closed, is_for, is_known, has, next, nothing_open, put, queued, row_at}
 
 -- its address, its servers and how many requests each may hold, what is open and waits, and how many requests it accepted,
 -- forwarded and got answers to, and how many turns it had
 pub record RouterState : Type 0 where
-  pub setup : Setup
+  pub setup : RouterSetup
   pub standing : Standing
   pub accepted : ℕ
   pub forwarded : ℕ
@@ -22,7 +24,7 @@ pub record RouterState : Type 0 where
   pub turns : ℕ
 
 -- a router to which nothing came yet
-abbrev pub begin : Setup → RouterState
+abbrev pub begin : RouterSetup → RouterState
 begin setup =
     record { setup = setup; standing = nothing_open (length setup.servers); accepted = 0; forwarded = 0; answered = 0; turns = 0 }
 
@@ -43,26 +45,26 @@ abbrev pub HadTurns : ℕ → RouterState → Type 0
 HadTurns n r = r.turns ≤ n
 
 -- a request that waited goes to a server
-abbrev pub moved_on : Standing → Option (Request × ℕ) → Standing
+abbrev pub moved_on : Standing → Option (RoutedRequest × ℕ) → Standing
 moved_on s (Some (request, server)) = put request server (record s { queue = drop 1 s.queue })
 moved_on s None = s
 
 -- the request that may go on does
-abbrev pub passed_on : RouterState → Option (Request × ℕ) → RouterState
+abbrev pub passed_on : RouterState → Option (RoutedRequest × ℕ) → RouterState
 passed_on r (Some (request, server)) =
     record r { standing = moved_on r.standing (Some (request, server)); forwarded = r.forwarded + 1 }
 passed_on r None = r
 
 -- a router behind a step
-abbrev pub stepped : RouterState → Step → RouterState
-stepped r step.Nothing = r
-stepped r (step.Reject rid) = r
-stepped r (step.Queue request) = record r { standing = queued request r.standing; accepted = r.accepted + 1 }
-stepped r (step.Forward request server) =
+abbrev pub carried_out : RouterState → Decision → RouterState
+carried_out r decision.Nothing = r
+carried_out r (decision.Reject rid) = r
+carried_out r (decision.Queue request) = record r { standing = queued request r.standing; accepted = r.accepted + 1 }
+carried_out r (decision.Forward request server) =
     record r { standing = put request server r.standing; accepted = r.accepted + 1; forwarded = r.forwarded + 1 }
-stepped r (step.Close rid server) =
+carried_out r (decision.Close rid server) =
     passed_on (record r { standing = closed rid server r.standing; answered = r.answered + 1 }) (next r.setup.n (closed rid server r.standing))
-stepped r step.Repeat = r
+carried_out r decision.Repeat = r
 
 -- how often a request of this name is open or waits
 abbrev pub copies : Rid → Standing → ℕ
@@ -85,19 +87,25 @@ pub record IsSound (r : RouterState) : Type 0 where
   pub forwarded : r.forwarded ≡ held_in r.standing + r.answered
   pub turns : r.accepted ≤ r.turns
 
--- and its n is one that a router may have
+-- and it has no more servers than a router may have, an n that one may have, and only packets that are requests
 pub record IsFit (r : RouterState) : Type 0 where
-  pub n : r.setup.n ≤ 16
+  pub servers : length r.setup.servers ≤ most_servers
+  pub n : r.setup.n ≤ greatest_n
   pub sound : IsSound r
+  pub requests : HoldsRequests r.standing
+
+-- how many requests may be open, at all servers together
+abbrev pub slots_of : RouterSetup → ℕ
+slots_of setup = length setup.servers * setup.n
 
 -- a new request that waits: no server has room, and fewer wait than may
-pub record IsNewAndWaits (n : ℕ) (request : Request) (s : Standing) : Type 0 where
+pub record IsNewAndWaits (n : ℕ) (request : RoutedRequest) (s : Standing) : Type 0 where
   pub new : is_known request.rid s ≡ false
   pub full : chosen n s.rows ≡ None
   pub room : length s.queue < most_waiting
 
 -- a new request that goes to the chosen server
-pub record IsNewAndGoes (n : ℕ) (request : Request) (server : ℕ) (s : Standing) : Type 0 where
+pub record IsNewAndGoes (n : ℕ) (request : RoutedRequest) (server : ℕ) (s : Standing) : Type 0 where
   pub new : is_known request.rid s ≡ false
   pub chosen : chosen n s.rows ≡ Some server
 
@@ -107,13 +115,13 @@ pub record IsOpenAt (rid : Rid) (server : ℕ) (s : Standing) : Type 0 where
   pub is_open : has rid (row_at s server) ≡ true
 
 -- a step that may be taken: a new request isn't known, and goes where there is room; a request that is closed is open there
-abbrev pub Fits : ℕ → Standing → Step → Type 0
-Fits n s step.Nothing = Unit {0}
-Fits n s (step.Reject rid) = Unit {0}
-Fits n s (step.Queue request) = IsNewAndWaits n request s
-Fits n s (step.Forward request server) = IsNewAndGoes n request server s
-Fits n s (step.Close rid server) = IsOpenAt rid server s
-Fits n s step.Repeat = Unit {0}
+abbrev pub Fits : ℕ → Standing → Decision → Type 0
+Fits n s decision.Nothing = Unit {0}
+Fits n s (decision.Reject rid) = Unit {0}
+Fits n s (decision.Queue request) = IsNewAndWaits n request s
+Fits n s (decision.Forward request server) = IsNewAndGoes n request server s
+Fits n s (decision.Close rid server) = IsOpenAt rid server s
+Fits n s decision.Repeat = Unit {0}
 
 -- a router behind one turn more
 abbrev pub counted : RouterState → RouterState
@@ -121,4 +129,4 @@ counted r = record r { turns = r.turns + 1 }
 
 -- a router behind an event
 unfoldable pub turned : RouterState → Event → RouterState
-turned r event = counted (stepped r (step_at r.setup r.standing event))
+turned r event = counted (carried_out r (decision_at r.setup r.standing event))

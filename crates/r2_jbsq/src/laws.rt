@@ -1,6 +1,6 @@
-//! What holds of every history of a router, whatever events come.
+//! What holds of every router and of each of its histories, whatever events come.
 
-ghost use Rattle.r2_jbsq.specs.Laws.{AnsweredRequestsAreNew, CountsAddUp, RequestsWaitOnlyWhileAllAreFull, ServersHoldAtMostN};
+ghost use Rattle.r2_jbsq.specs.Laws.{AnsweredRequestsAreNew, CountsAddUp, OthersAreIgnored, RequestsWaitOnlyWhileAllAreFull, ServersHoldAtMostN};
 
 /// At most n requests are open at a server.
 pub fn servers_hold_at_most_n()
@@ -20,4 +20,9 @@ pub fn counts_add_up()
 /// A request that was open at a server is a new one again, once that server has answered it.
 pub fn answered_requests_are_new()
     ensures { AnsweredRequestsAreNew }
+{}
+
+/// Bytes that are neither a request nor feedback under the policy JBSQ are ignored by every router.
+pub fn others_are_ignored()
+    ensures { OthersAreIgnored }
 {}

@@ -1,10 +1,11 @@
 ghost use Rattle.std.specs.Prelude.{◌≡◌, ◌<◌, ◌≤◌, false, true, length, is_some, IfOk, OnOk, OnErr};
 ghost use Rattle.std.specs.Option.{option_copied};
-ghost use Rattle.r2_base.specs.declared.rid.Rid.{Rid as TheRid};
+ghost use Rattle.r2_base.specs.declared.rid.Rid.{Rid as RidSpec};
+ghost use Rattle.r2_jbsq.specs.Limits.{greatest_n};
 ghost use Rattle.r2_jbsq.specs.Standing.{chosen, closed, first_gone, first_of, has, is_known, nothing_open, put, queued, row_at};
 ghost use Rattle.r2_jbsq.specs.State.{copies};
 
-use crate::Request;
+use crate::RoutedRequest;
 use crate::row::Row;
 use crate::rows::{chosen, new_rows};
 use r2_base::{NoMemory, Rid};
@@ -17,12 +18,13 @@ use std::marker::Model;
 pub(crate) struct Requests {
     rows: Vec<Row>,
     /// Those that wait, the oldest in front.
-    queue: VecDeque<Request>,
+    queue: VecDeque<RoutedRequest>,
     /// The names of all of them, so that a repeated request is found without a walk.
     known: HashSet<Rid>,
 }
 
 impl Model for Requests {
+    ghost use Rattle.r2_jbsq.specs.Limits.{greatest_n};
     ghost use Rattle.r2_jbsq.specs.Standing.{IsIndex, Standing};
 
     ghost Value = { Standing };
@@ -45,7 +47,6 @@ impl Requests {
     }
 
     /// Whether a request is open at some server or waits.
-    #[tactic(auto, unfolding(crate::specs::Names::same_rid))]
     pub(crate) fn is_known(&self, rid: &Rid) -> bool
         ensures { result ≡ is_known rid.now self.now }
     {
@@ -81,14 +82,14 @@ impl Requests {
     }
 
     /// The first of those that wait.
-    pub(crate) fn first(&self) -> Option<&Request>
+    pub(crate) fn first(&self) -> Option<&RoutedRequest>
         ensures { option_copied result ≡ first_of self.now.queue }
     {
         self.queue.front()
     }
 
     /// A new request waits.
-    pub(crate) fn queue(&mut self, request: Request) -> Result<(), NoMemory>
+    pub(crate) fn queue(&mut self, request: RoutedRequest) -> Result<(), NoMemory>
         requires { is_known request.rid self.old ≡ false }
         ensures ok { OnOk result (self.new ≡ queued request self.old) }
         ensures err { OnErr result (self.new ≡ self.old) }
@@ -100,10 +101,10 @@ impl Requests {
     }
 
     /// A new request goes to a server.
-    pub(crate) fn forward(&mut self, request: Request, server: usize) -> Result<(), NoMemory>
+    pub(crate) fn forward(&mut self, request: RoutedRequest, server: usize) -> Result<(), NoMemory>
         requires new { is_known request.rid self.old ≡ false }
         requires server { server < length self.old.rows }
-        requires room { length (row_at self.old server) < 16 }
+        requires room { length (row_at self.old server) < greatest_n }
         ensures ok { OnOk result (self.new ≡ put request server self.old) }
         ensures err { OnErr result (self.new ≡ self.old) }
     {
@@ -114,7 +115,7 @@ impl Requests {
 
     /// A server is done with a request, which is open there.
     pub(crate) fn close(&mut self, rid: &Rid, server: usize)
-        requires once { (other : TheRid) → copies other self.old ≤ 1 }
+        requires once { (other : RidSpec) → copies other self.old ≤ 1 }
         requires server { server < length self.old.rows }
         requires is_open { has rid.now (row_at self.old server) ≡ true }
         ensures { self.new ≡ closed rid.now server self.old }
@@ -126,7 +127,7 @@ impl Requests {
     /// The first of those that wait goes to a server. Answers whether one waited.
     pub(crate) fn move_on(&mut self, server: usize) -> bool
         requires server { server < length self.old.rows }
-        requires room { length (row_at self.old server) < 16 }
+        requires room { length (row_at self.old server) < greatest_n }
         ensures gone { self.new ≡ first_gone server self.old }
         ensures waited { result ≡ is_some (first_of self.old.queue) }
     {

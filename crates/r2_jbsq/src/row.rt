@@ -1,40 +1,40 @@
 ghost use Rattle.std.specs.Prelude.{◌≡◌, ◌<◌, ◌++◌, ◌∷◌, [], length, IfOk, option_map};
+ghost use Rattle.r2_jbsq.specs.Limits.{greatest_n};
 ghost use Rattle.r2_jbsq.specs.Standing.{first_of, has, is_for, without};
 
-use crate::Request;
+use crate::RoutedRequest;
+use crate::limits::GREATEST_N;
 use r2_base::{NoMemory, Rid};
 use std::alloc::Global;
 use std::marker::Model;
 
-/// The most requests that a server may hold.
-pub(crate) const MAX_HELD: u8 = 16;
-
 /// The requests that are open at one server, the oldest in front. There is room for as many as may be.
 #[derive(Debug, Drop)]
 pub(crate) struct Row {
-    requests: Vec<Request>,
+    requests: Vec<RoutedRequest>,
 }
 
 impl Model for Row {
     ghost use Rattle.std.specs.Prelude.{List, ◌≤◌, vec_capacity};
-    ghost use Rattle.r2_jbsq.specs.declared.request.Request.{Request};
+    ghost use Rattle.r2_jbsq.specs.Limits.{greatest_n};
+    ghost use Rattle.r2_jbsq.specs.declared.routed_request.RoutedRequest.{RoutedRequest};
 
-    ghost Value = { List Request };
+    ghost Value = { List RoutedRequest };
 
     ghost view = { λ a. a.requests.items };
 
-    ghost invariant = { λ a. 16 ≤ vec_capacity a.requests };
+    ghost invariant = { λ a. greatest_n ≤ vec_capacity a.requests };
 }
 
 impl Row {
     pub(crate) fn new(alloc: Global) -> Result<Row, NoMemory>
         ensures { IfOk result (λ row. row ≡ []) }
     {
-        let requests = Vec::with_capacity(alloc, usize::from(MAX_HELD))?;
+        let requests = Vec::with_capacity(alloc, usize::from(GREATEST_N))?;
         Ok(Row { requests })
     }
 
-    pub(crate) fn as_slice(&self) -> &[Request]
+    pub(crate) fn as_slice(&self) -> &[RoutedRequest]
         ensures { result.now ≡ self.now }
     {
         self.requests.as_slice()
@@ -54,8 +54,8 @@ impl Row {
     }
 
     /// A request comes to the server.
-    pub(crate) fn push(&mut self, request: Request)
-        requires { length self.old < 16 }
+    pub(crate) fn push(&mut self, request: RoutedRequest)
+        requires { length self.old < greatest_n }
         ensures { self.new ≡ self.old ++ request ∷ [] }
     {
         self.requests.push_reserved(request);
@@ -71,11 +71,8 @@ impl Row {
 }
 
 /// Whether this is the request of this name.
-#[tactic(auto, unfolding(crate::specs::Names::same_rid))]
-pub(crate) fn is_for(rid: &Rid, request: &Request) -> bool
+pub(crate) fn is_for(rid: &Rid, request: &RoutedRequest) -> bool
     ensures { result ≡ is_for rid.now request.now }
 {
-    rid.id == request.rid.id
-        && rid.client.ip == request.rid.client.ip
-        && rid.client.port == request.rid.client.port
+    *rid == request.rid
 }

@@ -2,7 +2,7 @@ ghost use Rattle.std.specs.Prelude.{◌≡◌, [], IfOk, length, nat_le, replica
 ghost use Rattle.std.specs.List.{list_all};
 ghost use Rattle.r2_jbsq.specs.Standing.{chosen, is_freest};
 
-use crate::Request;
+use crate::RoutedRequest;
 use crate::row::Row;
 use r2_base::{NoMemory, Rid};
 use std::alloc::Global;

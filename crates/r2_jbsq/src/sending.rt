@@ -1,39 +1,38 @@
-ghost use Rattle.std.specs.Prelude.{◌≡◌, ◌≤◌, ◌<◌, ◌++◌, ◌∷◌, [], Some, IfOk, OnOk, length, slice_index_or};
-ghost use Rattle.r2_header.specs.Header.{IsValid, spelling};
-ghost use Rattle.r2_jbsq.specs.Answer.{address_of, forward, next_sends, oldest_to, reject, reject_header, repeats, sends_of, to_server};
+ghost use Rattle.std.specs.Prelude.{◌≡◌, ◌≢◌, ◌≤◌, ◌<◌, ◌++◌, ◌∷◌, [], Some, IfOk, OnErr, OnOk, length, slice_index_or};
+ghost use Rattle.r2_jbsq.specs.declared.decision.Decision.TheVariants.{Nothing};
+ghost use Rattle.r2_jbsq.specs.Answer.{address_of, forward, next_sends, oldest_to, reject, repeats, sends_of, to_server};
 ghost use Rattle.r2_jbsq.specs.Standing.{beside, first_of};
 ghost use Rattle.r2_jbsq.specs.State.{Fits, IsFullWhileWaiting};
 
+use crate::decision::Decision;
 use crate::requests::Requests;
 use crate::row::Row;
-use crate::step::Step;
-use crate::{Request, Setup};
-use r2_base::{Addr, Bytes, Datagram, Datagrams, NoMemory, Rid};
-use r2_header::{Header, Packet, write};
+use crate::{RoutedRequest, RouterSetup};
+use r2_base::{Addr, Datagram, Datagrams, NoMemory, Rid};
+use r2_header::policy::JBSQ;
+use r2_header::{Packet, notice, one_part_header};
 use std::alloc::Global;
 
-/// How many bytes are enough for a header.
-const HEADER_ROOM: usize = 20;
-
-/// The datagrams of a step.
+/// The datagrams of a decision.
 pub(crate) fn sends_of(
     alloc: Global,
-    setup: &Setup,
+    setup: &RouterSetup,
     requests: &Requests,
-    step: &Step,
+    decision: &Decision,
 ) -> Result<Datagrams, NoMemory>
     requires rows { length requests.now.rows ≡ length setup.now.servers }
     requires full { IsFullWhileWaiting setup.now.n requests.now }
-    requires fits { Fits setup.now.n requests.now step.now }
-    ensures { IfOk result (λ sends. sends ≡ sends_of setup.now requests.now step.now) }
+    requires fits { Fits setup.now.n requests.now decision.now }
+    ensures sends { IfOk result (λ sends. sends ≡ sends_of setup.now requests.now decision.now) }
+    ensures free { OnErr result (decision.now ≢ Nothing) }
 {
-    match step {
-        Step::Nothing => Ok(Datagrams::new(alloc)),
-        Step::Reject(rid) => reject(alloc, setup.me, rid),
-        Step::Queue(_) => Ok(Datagrams::new(alloc)),
-        Step::Forward(request, server) => forward(alloc, setup, request, *server),
-        Step::Close(_, server) => forward_first(alloc, setup, requests, *server),
-        Step::Repeat => repeats(alloc, setup.me, setup.servers.as_slice(), requests.rows()),
+    match decision {
+        Decision::Nothing => Ok(Datagrams::new(alloc)),
+        Decision::Reject(rid) => reject(alloc, setup.me, rid),
+        Decision::Queue(_) => Ok(Datagrams::new(alloc)),
+        Decision::Forward(request, server) => forward(alloc, setup, request, *server),
+        Decision::Close(_, server) => forward_first(alloc, setup, requests, *server),
+        Decision::Repeat => repeats(alloc, setup.me, setup.servers.as_slice(), requests.rows()),
     }
 }
 
@@ -41,43 +40,19 @@ pub(crate) fn sends_of(
 fn reject(alloc: Global, me: Addr, rid: &Rid) -> Result<Datagrams, NoMemory>
     ensures { IfOk result (λ sends. sends ≡ reject me rid.now ∷ []) }
 {
+    let header = one_part_header(Packet::Reject, JBSQ, rid.id, None);
     let mut sends = Datagrams::new(alloc);
-    sends.push(Datagram {
-        from: me,
-        to: rid.client,
-        bytes: header_bytes(alloc, &reject_header(rid.id))?,
-    })?;
+    sends.push(notice(alloc, me, rid.client, &header)?)?;
     Ok(sends)
 }
 
-/// The header of a refusal.
-fn reject_header(id: u16) -> Header
-    ensures header { result ≡ reject_header id }
-    ensures valid { IsValid result }
-{
-    Header {
-        packet: Packet::Reject,
-        policy: 1,
-        first: true,
-        last: true,
-        id,
-        number: 1,
-        client: None,
-    }
-}
-
-/// The bytes of a packet without a payload.
-fn header_bytes(alloc: Global, header: &Header) -> Result<Bytes, NoMemory>
-    requires { IsValid header.now }
-    ensures { IfOk result (λ bytes. bytes ≡ spelling header.now) }
-{
-    let mut room = [0; HEADER_ROOM];
-    let size = write(header, &mut room);
-    Ok(Bytes::from_vec(Vec::from_slice(alloc, &room[..size])?))
-}
-
 /// A request in a datagram to a server.
-fn to_server(alloc: Global, me: Addr, server: Addr, request: &Request) -> Result<Datagram, NoMemory>
+fn to_server(
+    alloc: Global,
+    me: Addr,
+    server: Addr,
+    request: &RoutedRequest,
+) -> Result<Datagram, NoMemory>
     ensures { IfOk result (λ d. d ≡ to_server me server request.now) }
 {
     Ok(Datagram {
@@ -90,8 +65,8 @@ fn to_server(alloc: Global, me: Addr, server: Addr, request: &Request) -> Result
 /// A request goes to the server at this place.
 fn forward(
     alloc: Global,
-    setup: &Setup,
-    request: &Request,
+    setup: &RouterSetup,
+    request: &RoutedRequest,
     server: usize,
 ) -> Result<Datagrams, NoMemory>
     requires { server < length setup.now.servers }
@@ -106,7 +81,7 @@ fn forward(
 /// The first of the requests that wait goes to the server at this place.
 fn forward_first(
     alloc: Global,
-    setup: &Setup,
+    setup: &RouterSetup,
     requests: &Requests,
     server: usize,
 ) -> Result<Datagrams, NoMemory>
@@ -138,7 +113,7 @@ fn push_oldest(
     alloc: Global,
     me: Addr,
     server: Addr,
-    row: &[Request],
+    row: &[RoutedRequest],
 ) -> Result<(), NoMemory>
     ensures { OnOk result (sends.new ≡ sends.old ++ oldest_to me server row.now) }
 {

@@ -1,8 +1,9 @@
 -- A reader of a source's lines: what it holds, and what a call for the next line does.
-use Rattle.std.specs.Prelude.{◌≡◌, ◌≢◌, ◌⊎◌, ℕ, ◌+◌, ◌≤◌, ◌^◌, List, [], ◌∷◌, ◌++◌, length, All, Bool, true, false, Option, Some, None, Result, Ok, Err}
+use Rattle.std.specs.Prelude.{◌≡◌, ◌≢◌, ◌⊎◌, ℕ, ◌+◌, ◌≤◌, List, [], ◌∷◌, ◌++◌, length, All, Bool, true, false, Option, Some, None, Result, Ok, Err}
 use Rattle.std.specs.Io.KnownBytes.{Consumes, IsAtEnd}
 use Rattle.r2_lines.specs.declared.line_fault.LineFault.{LineFault}
 use Rattle.r2_lines.specs.declared.line_fault.LineFault.TheVariants.{Source, Memory, TooLong, Limit}
+use Rattle.r2_lines.specs.Limits.{most_line, most_read, most_taken}
 use Rattle.r2_lines.specs.Texts.{IsText}
 
 -- a reader: the bytes that were taken and given in no line yet, how many were taken, how many lines were given, and whether the source's end was reached
@@ -24,7 +25,7 @@ pub record HasLongLine (bytes : List ℕ) : Type 0 where
   pub bad : List ℕ
   pub rest : List ℕ
   pub one_line : All (λ b. b ≢ 10) bad
-  pub long : length bad ≡ 8193
+  pub long : length bad ≡ most_line + 1
   pub split : bytes ≡ bad ++ rest
 
 -- the first line of the bytes is known, by its end or by its length
@@ -72,7 +73,7 @@ Answers s t taken (Ok (Some line)) = GivesLine s t taken line ⊎ GivesLast s t 
 Answers s t taken (Ok None) = GivesNone s t taken
 Answers s t taken (Err TooLong) = Holds s t taken × HasLongLine t.pending
 Answers s t taken (Err Source) = HoldsPart s t taken
-Answers s t taken (Err Limit) = HoldsPart s t taken × (t.taken ≡ 2 ^ 56)
+Answers s t taken (Err Limit) = HoldsPart s t taken × (t.taken ≡ most_taken)
 Answers s t taken (Err Memory) = Holds s t taken
 
 -- these bytes were needed to know the next line: before the last of the reads that gave them, of at most 4,096 bytes each, none was known
@@ -82,7 +83,7 @@ pub record AreNeeded (s : ReaderState) (taken : List ℕ) : Type 0 where
   pub split : taken ≡ before ++ last
   pub unknown : IsText (s.pending ++ before)
   pub open_end : s.ended ≡ false
-  pub one_read : length last ≤ 4096
+  pub one_read : length last ≤ most_read
 
 -- a call for the next line that answered so: it took some of what the source had left, and nothing where the line was known
 pub record ReadsLine (s t : ReaderState) (left left' : Option (List ℕ)) (answer : Result (Option (List ℕ)) LineFault) : Type 0 where

@@ -1,6 +1,7 @@
 ghost use Rattle.std.specs.Prelude.{◌≡◌, ◌⊎◌, ◌≤◌, ◌<◌, ◌+◌, ◌^◌, ◌↔◌, [], true, false, take, drop, length, Some, Err, IsTrue, IfOk, IfErr, OnOk, OnErr};
 ghost use Rattle.std.specs.Io.KnownBytes.{Keeps};
 ghost use Rattle.r2_link.specs.Faults.{Rose};
+ghost use Rattle.r2_lines.specs.Limits.{most_taken};
 ghost use Rattle.r2_lines.specs.Texts.{IsText};
 
 use crate::LineFault;
@@ -60,7 +61,7 @@ impl LineReader {
     /// How many lines were given, the empty ones included.
     pub fn lines(&self) -> u64
         ensures count { result ≡ self.now.lines }
-        ensures most { result ≤ 2 ^ 56 }
+        ensures most { result ≤ most_taken }
     {
         self.lines
     }
@@ -68,7 +69,7 @@ impl LineReader {
     /// Whether more of the source is needed to know the next line.
     fn has_to_read(&self) -> bool
         ensures answer { IsTrue result ↔ (IsText self.now.pending × (self.now.ended ≡ false)) }
-        ensures most { self.now.taken ≤ 2 ^ 56 }
+        ensures most { self.now.taken ≤ most_taken }
     {
         if self.ended {
             return false;
@@ -160,7 +161,7 @@ impl LineReader {
         source: &mut S,
     ) -> Result<Option<Bytes>, LineFault>
         ensures reads { ReadsLine self.old self.new (S.left source.old) (S.left source.new) result }
-        ensures most { self.new.taken ≤ 2 ^ 56 }
+        ensures most { self.new.taken ≤ most_taken }
 
         // Nothing is read where the next line is known, or the end was reached.
         ensures lazy { HasKnownLine self.old.pending ⊎ (self.old.ended ≡ true) → source.new ≡ source.old }

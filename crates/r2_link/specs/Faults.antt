@@ -1,9 +1,14 @@
 -- Counts that stand still at the end of their type.
-use Rattle.std.specs.Prelude.{ℕ, ◌+◌, ◌-◌, ◌^◌, ◌≤◌, min}
+use Rattle.std.specs.Prelude.{Bool, true, false, ℕ, ◌+◌, ◌-◌, ◌^◌, ◌≤◌, min}
 
 -- one more, or the end of the type
 abbrev pub counted : ℕ → ℕ
 counted n = min (n + 1) (2 ^ 64 - 1)
+
+-- one more where something failed, and else as before
+abbrev pub counted_where : Bool → ℕ → ℕ
+counted_where true n = counted n
+counted_where false n = n
 
 -- the count went up by one or more, or stands at the end of its type
 abbrev pub Rose : ℕ → ℕ → Type 0

@@ -1,5 +1,5 @@
 -- What a link gives from its lane, and what it was given to send.
-use Rattle.std.specs.Prelude.{◌≡◌, ℕ, ◌≤◌, List, [], ◌∷◌, ◌⊎◌, length, drop, ⊤, Option, Some, None}
+use Rattle.std.specs.Prelude.{◌≡◌, Bool, true, false, ℕ, ◌≤◌, List, [], ◌∷◌, ◌⊎◌, length, drop, ⊤, Option, Some, None}
 use Rattle.r2_base.specs.declared.datagram.Datagram.{Datagram}
 use Rattle.r2_link.specs.declared.lane.Item.{Item}
 use Rattle.r2_link.specs.declared.lane.Item.TheVariants.{Datagram as ADatagram, Quiet as NoDatagram}
@@ -25,6 +25,10 @@ Received (Some items) (Some rest) got = (got ≡ got_of items) × (rest ≡ drop
 abbrev pub SentAtMost : Option (List Datagram) → Option (List Datagram) → Datagram → Type 0
 SentAtMost old new d = IsKept old new ⊎ Gains old new (d ∷ [])
 
+-- how many bytes of a datagram a socket hands over
+abbrev pub most_datagram : ℕ
+most_datagram = 2048
+
 -- a datagram of at most n bytes came, or none, but not the end
 abbrev pub BringsAtMost : ℕ → Got → Type 0
 BringsAtMost n (GotDatagram d) = length d.bytes ≤ n
@@ -35,3 +39,8 @@ BringsAtMost n End = ⊥
 abbrev pub IsFault : LinkFault → Type 0
 IsFault Failed = ⊤
 IsFault Memory = ⊥
+
+-- whether the link failed
+abbrev pub is_fault : LinkFault → Bool
+is_fault Failed = true
+is_fault Memory = false

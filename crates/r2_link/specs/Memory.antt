@@ -4,9 +4,6 @@ use Rattle.r2_base.specs.declared.room.Room.{Room}
 use Rattle.r2_base.specs.declared.datagram.Datagram.{Datagram}
 use Rattle.r2_link.specs.declared.lane.Item.{Item}
 use Rattle.r2_link.specs.declared.lane.Lane.{Lane}
-use Rattle.r2_link.specs.declared.link.LinkFault.{LinkFault}
-use Rattle.r2_link.specs.declared.link.LinkFault.TheVariants.{Failed, Memory}
-use Rattle.r2_link.specs.Faults.{counted}
 
 -- a source: the bytes that are left, the calls made so far, the numbers of the calls that fail, and how often it failed
 pub record SourceState : Type 0 where
@@ -52,11 +49,6 @@ next_lane (lane ∷ rest) = lane
 -- the items of a lane
 abbrev pub items_of : Lane → List Item
 items_of lane = lane.items
-
--- how often a link has failed behind a call that had no answer
-abbrev pub faults_behind : LinkFault → ℕ → ℕ
-faults_behind Failed n = counted n
-faults_behind Memory n = n
 
 -- no call is left, or fewer bytes than these
 abbrev pub IsTooSmall : Room → ℕ → Type 0

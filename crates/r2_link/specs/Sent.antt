@@ -3,7 +3,7 @@ use Rattle.std.specs.Prelude.{ℕ, ◌+◌, ◌-◌, ◌≤◌, List, ◌++◌, 
 use Rattle.r2_base.specs.declared.datagram.Datagram.{Datagram}
 use Rattle.r2_base.specs.declared.room.Room.{Room}
 use Rattle.r2_link.specs.declared.sent.Head.{Head}
-use Rattle.r2_link.specs.declared.sent.Record.{Record}
+use Rattle.r2_link.specs.declared.sent.SentRecord.{SentRecord}
 use Rattle.r2_link.specs.declared.sent.Joined.{Joined}
 use Rattle.r2_link.specs.declared.sent.Joined.TheVariants.{Nobody, Twin'}
 
@@ -20,7 +20,7 @@ sent_upto n own (Twin' p heads bytes joined at before) =
     ++ take (n - at) (drop at own)
 
 -- all that a record says was sent
-abbrev pub all_sent : Record → List Datagram
+abbrev pub all_sent : SentRecord → List Datagram
 all_sent r = sent_upto (length r.heads.items) (map (datagram_at r.bytes.items) r.heads.items) r.joined
 
 -- the twins came back where at most n datagrams had been sent
@@ -29,7 +29,7 @@ CameWithin n Nobody = ⊤
 CameWithin n (Twin' p heads bytes joined at before) = (at ≤ n) × CameWithin at before
 
 -- a record whose own datagrams lie within its bytes, with a capacity for the room that is left
-pub record IsReady (r : Record) (room : Room) : Type 0 where
+pub record IsReady (r : SentRecord) (room : Room) : Type 0 where
   pub bytes : length r.bytes.items + room.bytes ≤ vec_capacity r.bytes
   pub heads : length r.heads.items + room.calls ≤ vec_capacity r.heads
   pub inside : All (λ h. h.start + h.len ≤ length r.bytes.items) r.heads.items

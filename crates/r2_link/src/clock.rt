@@ -6,7 +6,7 @@ ghost use Rattle.r2_link.specs.Moments.{Gives};
 use r2_base::Failed;
 
 /// What tells the time.
-pub trait Clock: Send {
+pub trait Clock {
     /// The moments that are left, where the clock tells them. The last of them is given again and again.
     ghost left: { Self → Option (List ℕ) };
 

@@ -21,6 +21,7 @@ mod twin;
 mod udp_link;
 mod written;
 
+pub use calls::is_named;
 pub use clock::Clock;
 pub use lane::{Item, Items, Lane, Lanes};
 pub use link::{Got, Link, LinkFault};

@@ -30,7 +30,7 @@ pub enum LinkFault {
 }
 
 /// Where datagrams come from and go to.
-pub trait Link: Send + Drop {
+pub trait Link: Drop {
     /// The items that are left to receive, where the link tells them.
     ghost left: { Self → Option (List Item) };
 

@@ -1,12 +1,12 @@
 ghost use Rattle.std.specs.Prelude.{◌≡◌, ℕ, List, ◌+◌, ◌<◌, ◌≤◌, ◌⊎◌, ◌∷◌, ◌++◌, ⊤, length, drop, map, min, Some, [], Contains, MatchResult, if◌then◌else◌, is_ok, IfOk, IfErr, IsErr, IsErrAnd, OnOk, OnErr, ◌↔◌, ◌-◌, ◌^◌};
-ghost use Rattle.r2_link.specs.Faults.{Rose, counted};
-ghost use Rattle.r2_link.specs.Memory.{IsTooSmall, room_behind, begun, items_of, next_lane, faults_behind};
+ghost use Rattle.r2_link.specs.Faults.{Rose, counted, counted_where};
+ghost use Rattle.r2_link.specs.Memory.{IsTooSmall, room_behind, begun, items_of, next_lane};
 ghost use Rattle.r2_link.specs.Told.{IsKept};
-ghost use Rattle.r2_link.specs.Lanes.{Received, IsFault};
+ghost use Rattle.r2_link.specs.Lanes.{Received, IsFault, is_fault};
 ghost use Rattle.r2_link.specs.Sent.{all_sent, IsReady};
 
 use crate::calls::{is_named, is_refused};
-use crate::sent::{Record, append, copy_record, join, reserve};
+use crate::sent::{SentRecord, append, copy_record, join, reserve};
 use crate::{Got, Item, Items, Lane, Lanes, Link, LinkFault, Twin};
 use r2_base::{Addr, Datagram, Datagrams, Failed, NoMemory, Numbers, Room};
 use std::alloc::Global;
@@ -19,7 +19,7 @@ use std::marker::Model;
 pub struct MemLink {
     items: VecDeque<Item>,
     lanes: VecDeque<Lane>,
-    sent: Box<Record>,
+    sent: Box<SentRecord>,
     room: Room,
     fails: Numbers,
     calls: u64,
@@ -159,7 +159,7 @@ impl Twin for MemLink {
 
         ensures calls { self.new.calls ≡ counted self.old.calls }
         ensures fails { self.new.fails ≡ self.old.fails }
-        ensures faults { MatchResult result (λ _. self.new.faults ≡ self.old.faults) (λ e. self.new.faults ≡ faults_behind e self.old.faults) }
+        ensures faults { MatchResult result (λ _. self.new.faults ≡ self.old.faults) (λ e. self.new.faults ≡ counted_where (is_fault e) self.old.faults) }
     {
         let is_to_fail = is_named(self.fails.as_slice(), self.calls);
         self.calls = self.calls.saturating_add(1);
@@ -191,7 +191,7 @@ impl Twin for MemLink {
     }
 }
 
-fn begin(own: Lane, lanes: VecDeque<Lane>, sent: Box<Record>) -> MemLink
+fn begin(own: Lane, lanes: VecDeque<Lane>, sent: Box<SentRecord>) -> MemLink
     requires unsent { all_sent sent.value ≡ [] }
     requires ready { IsReady sent.value own.room }
     ensures { result ≡ begun own lanes.items }

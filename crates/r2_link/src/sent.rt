@@ -19,7 +19,7 @@ pub(crate) struct Head {
 /// What a link in memory has sent. Its vectors have room for all that it may send, and never grow.
 #[cycle(record)]
 #[derive(Drop)]
-pub(crate) struct Record {
+pub(crate) struct SentRecord {
     heads: Vec<Head>,
     bytes: Vec<u8>,
     /// The twins that came back.
@@ -35,15 +35,15 @@ pub(crate) struct Record {
 #[derive(Drop)]
 pub(crate) enum Joined {
     Nobody,
-    Twin(Box<Record>),
+    Twin(Box<SentRecord>),
 }
 
 /// An empty record with a capacity for the room.
-pub(crate) fn reserve(alloc: Global, room: Room) -> Result<Box<Record>, NoMemory>
+pub(crate) fn reserve(alloc: Global, room: Room) -> Result<Box<SentRecord>, NoMemory>
     ensures sent { IfOk result (λ r. all_sent r.value ≡ []) }
     ensures ready { IfOk result (λ r. IsReady r.value room) }
 {
-    let record = Record {
+    let record = SentRecord {
         heads: Vec::with_capacity(alloc, room.calls as usize)?,
         bytes: Vec::with_capacity(alloc, room.bytes as usize)?,
         joined: Joined::Nobody,
@@ -54,7 +54,7 @@ pub(crate) fn reserve(alloc: Global, room: Room) -> Result<Box<Record>, NoMemory
 }
 
 /// Puts a datagram behind those of the record, within the capacity that was reserved for the room.
-pub(crate) fn append(own: &mut Record, room: Room, d: &Datagram)
+pub(crate) fn append(own: &mut SentRecord, room: Room, d: &Datagram)
     requires ready { IsReady own.old room }
     requires calls { 0 < room.calls }
     requires bytes { length d.now.bytes ≤ room.bytes }
@@ -76,7 +76,7 @@ pub(crate) fn append(own: &mut Record, room: Room, d: &Datagram)
 }
 
 /// Puts the datagrams of a twin behind those of the record.
-pub(crate) fn join(own: &mut Record, mut twin: Box<Record>)
+pub(crate) fn join(own: &mut SentRecord, mut twin: Box<SentRecord>)
     ensures sent { all_sent own.new ≡ all_sent own.old ++ all_sent twin.value }
     ensures ready { (room : Room) → IsReady own.old room → IsReady own.new room }
 {
@@ -116,7 +116,7 @@ fn copy_upto(
 /// Copies all that the record says was sent.
 pub(crate) fn copy_record(
     alloc: Global,
-    own: &Record,
+    own: &SentRecord,
     out: &mut Vec<Datagram>,
 ) -> Result<(), NoMemory>
     ensures { OnOk result (out.new.items ≡ out.old.items ++ all_sent own.now) }

@@ -1,28 +1,54 @@
 ghost use Rattle.std.specs.Prelude.{◌≡◌, ◌≤◌, ⊤, None, IfOk, MatchResult};
 ghost use Rattle.r2_link.specs.Faults.{Rose};
-ghost use Rattle.r2_link.specs.Lanes.{IsFault, BringsAtMost};
+ghost use Rattle.r2_link.specs.Lanes.{IsFault, BringsAtMost, most_datagram};
 
 use crate::{Got, Link, LinkFault, Twin};
 use r2_base::{Addr, Bytes, Datagram, Failed};
 use std::alloc::Global;
-use std::io::ErrorKind;
+use std::io::{self, ErrorKind};
 use std::net::{Ipv4Addr, Net, SocketAddr, SocketAddrV4, UdpSocket};
 use std::time::Duration;
 
 /// How many bytes of a datagram are handed over. The rest is lost.
-const MAX_DATAGRAM: usize = 2_048;
+const MOST_DATAGRAM: usize = 2_048;
 
 /// How often a send is tried that a signal interrupts.
-const MAX_TRIES: u32 = 16;
+const MOST_TRIES: u32 = 16;
 
-/// A UDP socket. It does not tell what came or was sent. A twin is the same socket.
+/// Linux's number of the error that a datagram is too long for any packet. These three have no `ErrorKind` of their own.
+const TOO_LONG: i32 = 90;
+
+/// That the system has no room for a datagram just now.
+const NO_BUFFERS: i32 = 105;
+
+/// That the host is down to which a datagram goes.
+const HOST_DOWN: i32 = 112;
+
+/// A UDP socket. It does not tell what came or was sent.
+///
+/// A twin is the same socket, so twins share how long a receive waits: where one of them changes it, the others wait so long, too,
+/// until they change it themselves. Twins that receive at the same time are given the same wait.
 #[derive(Drop)]
 pub struct UdpLink<'a, R: Net + Sync> {
     rt: &'a R,
     socket: Option<UdpSocket>,
     me: Addr,
+    wait: SocketWait,
     faults: u64,
 }
+
+/// What a link last set at its socket, so that it is set again only where it changes. `None` where that isn't known.
+#[derive(Clone, Copy)]
+struct SocketWait {
+    is_blocking: Option<bool>,
+    /// How long a receive waits that blocks, in milliseconds.
+    timeout_ms: Option<u64>,
+}
+
+const UNKNOWN_WAIT: SocketWait = SocketWait {
+    is_blocking: None,
+    timeout_ms: None,
+};
 
 impl<'a, R: Net + Sync> UdpLink<'a, R> {
     pub fn new(rt: &'a R) -> Self
@@ -32,6 +58,7 @@ impl<'a, R: Net + Sync> UdpLink<'a, R> {
             rt,
             socket: None,
             me: Addr { ip: 0, port: 0 },
+            wait: UNKNOWN_WAIT,
             faults: 0,
         }
     }
@@ -51,6 +78,7 @@ impl<'a, R: Net + Sync> Link for UdpLink<'a, R> {
             Ok(socket) => {
                 self.socket = Some(socket);
                 self.me = me;
+                self.wait = UNKNOWN_WAIT;
                 Ok(())
             }
             Err(_) => {
@@ -60,17 +88,21 @@ impl<'a, R: Net + Sync> Link for UdpLink<'a, R> {
         }
     }
 
-    /// Hands over at most 2,048 bytes of a datagram. Without an address it fails.
+    /// Hands over at most 2,048 bytes of a datagram. With a wait of 0 it takes what is there already, and doesn't wait. Without an
+    /// address it fails.
     fn receive(&mut self, alloc: Global, wait_ms: u64) -> Result<Got, LinkFault>
         ensures left { MatchResult result (λ _. ⊤) (λ _. ⊤) }
         ensures sent { ⊤ }
         ensures lanes { ⊤ }
         ensures steady { self.old.faults ≤ self.new.faults }
         ensures cause { MatchResult result (λ _. ⊤) (λ e. IsFault e → Rose self.old.faults self.new.faults) }
-        ensures size { IfOk result (BringsAtMost 2048) }
+        ensures size { IfOk result (BringsAtMost most_datagram) }
     {
         let got = match &self.socket {
-            Some(socket) => receive_from(alloc, socket, self.me, wait_ms),
+            Some(socket) => match set_wait(socket, &mut self.wait, wait_ms) {
+                Ok(()) => receive_from(alloc, socket, self.me),
+                Err(Failed) => Err(LinkFault::Failed),
+            },
             None => Err(LinkFault::Failed),
         };
         if let Err(LinkFault::Failed) = got {
@@ -79,9 +111,11 @@ impl<'a, R: Net + Sync> Link for UdpLink<'a, R> {
         got
     }
 
+    /// Without an address, or where the socket is broken, it fails. A datagram that the system refuses for where it goes or for this
+    /// moment (no route there, no room just now) is lost, as it might be on its way, and the answer is `Ok`.
     fn send(&mut self, d: &Datagram) -> Result<(), Failed> {
         if let Some(socket) = &self.socket {
-            if is_sent(socket, d) {
+            if is_sent_or_lost(socket, d) {
                 return Ok(());
             }
         }
@@ -102,15 +136,18 @@ impl<'a, R: Net + Sync> Twin for UdpLink<'a, R> {
             },
             None => None,
         };
+        self.wait = UNKNOWN_WAIT;
         Ok(UdpLink {
             rt: self.rt,
             socket,
             me: self.me,
+            wait: UNKNOWN_WAIT,
             faults: 0,
         })
     }
 
     fn rejoin(&mut self, twin: Self) {
+        self.wait = UNKNOWN_WAIT;
         self.faults = self.faults.saturating_add(twin.faults);
     }
 }
@@ -119,16 +156,49 @@ fn socket_addr(a: Addr) -> SocketAddr {
     SocketAddr::V4(SocketAddrV4::new(Ipv4Addr::from_bits(a.ip), a.port))
 }
 
-/// The next datagram within the wait. A wait that ends, or that a signal interrupts, brings nothing.
-fn receive_from(alloc: Global, socket: &UdpSocket, me: Addr, wait_ms: u64) -> Result<Got, LinkFault>
-    ensures { IfOk result (BringsAtMost 2048) }
-{
-    // The system takes a wait of 0 for one without end.
-    let wait = Duration::from_millis(wait_ms.max(1));
-    if socket.set_read_timeout(Some(wait)).is_err() {
-        return Err(LinkFault::Failed);
+/// Makes the receives of a socket wait so long.
+fn set_wait(socket: &UdpSocket, wait: &mut SocketWait, wait_ms: u64) -> Result<(), Failed> {
+    // The system takes a timeout of 0 for one without end.
+    if wait_ms > 0 {
+        set_timeout(socket, wait, wait_ms)?;
     }
-    let Ok(mut bytes) = Vec::from_slice(alloc, &[0; MAX_DATAGRAM]) else {
+    set_blocking(socket, wait, wait_ms > 0)
+}
+
+fn set_timeout(socket: &UdpSocket, wait: &mut SocketWait, wait_ms: u64) -> Result<(), Failed> {
+    if wait.timeout_ms == Some(wait_ms) {
+        return Ok(());
+    }
+    wait.timeout_ms = None;
+    let timeout = Duration::from_millis(wait_ms);
+    if socket.set_read_timeout(Some(timeout)).is_err() {
+        return Err(Failed);
+    }
+    wait.timeout_ms = Some(wait_ms);
+    Ok(())
+}
+
+fn set_blocking(
+    socket: &UdpSocket,
+    wait: &mut SocketWait,
+    is_blocking: bool,
+) -> Result<(), Failed> {
+    if wait.is_blocking == Some(is_blocking) {
+        return Ok(());
+    }
+    wait.is_blocking = None;
+    if socket.set_nonblocking(!is_blocking).is_err() {
+        return Err(Failed);
+    }
+    wait.is_blocking = Some(is_blocking);
+    Ok(())
+}
+
+/// The next datagram within the wait that is set. A wait that ends, or that a signal interrupts, brings nothing.
+fn receive_from(alloc: Global, socket: &UdpSocket, me: Addr) -> Result<Got, LinkFault>
+    ensures { IfOk result (BringsAtMost most_datagram) }
+{
+    let Ok(mut bytes) = Vec::from_slice(alloc, &[0; MOST_DATAGRAM]) else {
         return Err(LinkFault::Memory);
     };
     match socket.recv_from(bytes.as_mut_slice()) {
@@ -151,25 +221,45 @@ fn receive_from(alloc: Global, socket: &UdpSocket, me: Addr, wait_ms: u64) -> Re
     }
 }
 
-/// Whether the socket took the whole datagram.
-fn is_sent(socket: &UdpSocket, d: &Datagram) -> bool {
+/// Whether the socket took the whole datagram, or the system refused this datagram alone.
+fn is_sent_or_lost(socket: &UdpSocket, d: &Datagram) -> bool {
     let to = socket_addr(d.to);
-    'tries: for _ in 0..MAX_TRIES {
+    'tries: for _ in 0..MOST_TRIES {
         match socket.send_to(d.bytes.as_slice(), to) {
             Ok(count) => return count == d.bytes.len(),
             Err(e) => {
                 if e.kind() != ErrorKind::Interrupted {
-                    return false;
+                    return is_lost(&e);
                 }
             }
         }
     }
-    false
+    true
+}
+
+/// Whether an error of a send is about one datagram, for where it goes or for this moment. All others say that the socket is broken.
+fn is_lost(error: &io::Error) -> bool {
+    match error.kind() {
+        // An address or a port that can't be sent to, or from where the socket is bound: port 0, or a network that is no more.
+        ErrorKind::InvalidInput | ErrorKind::AddrNotAvailable => true,
+        // No permission for that address: a broadcast, or a rule of the system's filter.
+        ErrorKind::PermissionDenied => true,
+        // No route there, or nobody there who answers.
+        ErrorKind::NetworkUnreachable | ErrorKind::HostUnreachable => true,
+        ErrorKind::NetworkDown | ErrorKind::ConnectionRefused => true,
+        // No room just now.
+        ErrorKind::WouldBlock | ErrorKind::OutOfMemory => true,
+        _ => match error.raw_os_error() {
+            Some(TOO_LONG | NO_BUFFERS | HOST_DOWN) => true,
+            _ => false,
+        },
+    }
 }
 
 #[cfg(test)]
 mod tests {
     use super::*;
+    use std::test::Fail;
 
     const LOOPBACK: u32 = 0x7f00_0001;
 
@@ -215,8 +305,40 @@ mod tests {
         assert!(rt; to.is_some());
         if let Some(to) = to {
             assert_eq!(rt; server.receive(rt.alloc(), 1), Ok(Got::Quiet));
+            assert_eq!(rt; server.receive(rt.alloc(), 0), Ok(Got::Quiet));
             let got = brought(rt.alloc(), &mut client, &mut server, to);
             assert_eq!(rt; got, Ok(Some(2_048)));
+            assert_eq!(rt; server.receive(rt.alloc(), 0), Ok(Got::Quiet));
         }
+    }
+
+    // What the system refuses: a datagram to port 0, a broadcast, and one of too many bytes.
+    const LOST: [(u32, u16, usize); 3] = [
+        (LOOPBACK, 0, 1),
+        (0xffff_ffff, 9, 1),
+        (LOOPBACK, 9, 70_000),
+    ];
+
+    #[test]
+    fn refused_datagram_is_lost_and_the_link_goes_on(rt: HostRuntime) -> Result<(), Fail> {
+        let mut link = UdpLink::new(&rt);
+        let from = Addr {
+            ip: LOOPBACK,
+            port: 0,
+        };
+        for (ip, port, len) in LOST {
+            let mut bytes = Vec::new(rt.alloc());
+            bytes.resize(len, 7)?;
+            let bytes = Bytes::from_vec(bytes);
+            let to = Addr { ip, port };
+            let datagram = Datagram { from, to, bytes };
+            // Without a socket it fails.
+            link.socket = None;
+            assert_eq!(rt; link.send(&datagram), Err(Failed));
+            assert!(rt; bound(&mut link, 43_000).is_some());
+            assert_eq!(rt; link.send(&datagram), Ok(()));
+        }
+        assert_eq!(rt; link.faults, 3);
+        Ok(())
     }
 }

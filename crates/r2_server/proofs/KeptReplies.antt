@@ -1,17 +1,19 @@
 -- What holds of each reply that is kept.
-use Rattle.std.proofs.Common.{◌≡◌, ◌<◌, ◌-◌, ℕ, Bool, true, false, cond, List, [], ◌∷◌, ◌++◌, length, reverse, Option, Some, None, refl, sym, subst, arith}
+use Rattle.std.proofs.Common.{◌≡◌, ◌<◌, ◌-◌, ℕ, Bool, true, false, cond, List, [], ◌∷◌, ◌++◌, length, reverse, Option, Some, None, refl, sym, subst, arith, length-drop}
 use Rattle.std.specs.Prelude.{◌≤◌, IfSome, MatchOption, option_map}
 use Rattle.std.specs.List.{All, find}
 use Rattle.std.proofs.lemmas.List.{get_or-reverse, length-reverse}
 use Rattle.std.proofs.lemmas.List.Elements.{All-head, All-tail, All-push, All-drop}
+use Rattle.r2_base.specs.Limits.{most_reply}
+use Rattle.r2_base.specs.Names.{same_rid}
 use Rattle.r2_base.specs.declared.rid.Rid.{Rid}
+use Rattle.r2_header.specs.Policy.{replicated_read}
 use Rattle.r2_header.specs.declared.header.Header.{Header}
 use Rattle.r2_frag.specs.declared.kept.KeptReply.{KeptReply}
-use Rattle.r2_frag.specs.Kept.{kept_with, newest}
+use Rattle.r2_frag.specs.Kept.{kept_with, most_kept, newest}
 use Rattle.r2_frag.specs.declared.key.Key.{Key}
-use Rattle.r2_frag.specs.Keys.{same_rid}
 use Rattle.r2_base.specs.declared.datagram.Datagram.{Datagram}
-use Rattle.r2_server.specs.Sound.{IsReply, most_replied}
+use Rattle.r2_frag.specs.Replies.{IsReply}
 use Rattle.r2_server.specs.State.{ServerState}
 use Rattle.r2_server.specs.Turn.{answered, first_part, repeated}
 
@@ -39,9 +41,14 @@ newest-is P rid replies all = All-find P (λ reply. same_rid reply.rid rid) (rev
 pub kept_with-is : (P : KeptReply → Type 0) (replies : List KeptReply) (reply : KeptReply) → All P replies → P reply → All P (kept_with replies reply)
 kept_with-is P replies reply all one = All-drop P _ (replies ++ reply ∷ []) (All-push P replies reply all one)
 
+-- no more are kept than may be
+pub kept_with-few : (replies : List KeptReply) (reply : KeptReply) → length (kept_with replies reply) ≤ most_kept
+kept_with-few replies reply =
+    omega (arith, length-drop (length (replies ++ reply ∷ []) - most_kept) (replies ++ reply ∷ []))
+
 -- the policy and the payload that a look-up found
 pub found-is : (o : Option KeptReply) (absent : Type 0) (policy : ℕ) (payload : List ℕ) → IfSome o IsReply
-    → MatchOption o absent (λ r. (policy ≡ r.policy) × (payload ≡ r.payload)) → (absent → ⊥) → (policy ≤ 3) × (length payload ≤ most_replied)
+    → MatchOption o absent (λ r. (policy ≡ r.policy) × (payload ≡ r.payload)) → (absent → ⊥) → (policy ≤ replicated_read) × (length payload ≤ most_reply)
 found-is None absent policy payload is h never = absurd (never h)
 found-is (Some r) absent policy payload is h never = let e = h.0 in let f = h.1 in (omega (arith, is.policy, e), rw f is.payload)
 

@@ -1,8 +1,7 @@
+pub mod Ageing
+pub mod Ages
 pub mod Choices
 pub mod GivingUp
 pub mod KeptReplies
-pub mod Limits
-pub mod Parts
 pub mod Sound
 pub mod Taken
-pub mod Values

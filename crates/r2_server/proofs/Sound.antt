@@ -1,8 +1,7 @@
 -- A turn leaves a sound server sound.
-use Rattle.std.proofs.Common.{◌≡◌, ◌≤◌, ◌<◌, ◌+◌, ◌^◌, ℕ, true, List, [], ◌∷◌, drop, length, Option, Some, None, refl, subst, sym, ap, arith}
-use Rattle.std.specs.Prelude.{IfSome, Result, Ok, Err}
-use Rattle.std.specs.List.{All}
-use Rattle.std.specs.FinMap as map
+use Rattle.std.proofs.Common.{◌≡◌, ◌≤◌, ◌<◌, ◌+◌, ℕ, true, List, [], ◌∷◌, drop, length, Option, Some, None, refl, subst, ap, arith}
+use Rattle.std.specs.Prelude.{Result, Ok, Err}
+use Rattle.r2_base.specs.Limits.{most_body}
 use Rattle.r2_base.specs.declared.addr.Addr.{Addr}
 use Rattle.r2_base.specs.declared.datagram.Datagram.{Datagram}
 use Rattle.r2_base.specs.declared.entry.Kind.TheVariants.{Write}
@@ -12,56 +11,57 @@ use Rattle.r2_header.specs.declared.header.Header.{Header}
 use Rattle.r2_header.specs.declared.header_fault.HeaderFault.{HeaderFault}
 use Rattle.r2_header.specs.declared.packet.Packet.{Packet}
 use Rattle.r2_header.specs.declared.packet.Packet.TheVariants as packet
+use Rattle.r2_header.specs.Policy.{jbsq}
 use Rattle.r2_header.specs.Reading.{header_at}
 use Rattle.r2_header.proofs.Begun.{read_is_valid}
 use Rattle.r2_frag.specs.declared.added.Added.{Added}
 use Rattle.r2_frag.specs.declared.added.Added.TheVariants.{Bad, Dropped, More, Repeat, Whole}
+use Rattle.r2_frag.specs.declared.class.Class.{Class}
+use Rattle.r2_frag.specs.declared.class.Class.TheVariants.{Request}
 use Rattle.r2_frag.specs.declared.kept.KeptReply.{KeptReply}
 use Rattle.r2_frag.specs.declared.key.Key.{Key}
 use Rattle.r2_frag.specs.declared.unfinished.Unfinished.{Unfinished}
 use Rattle.r2_frag.specs.Assembly.{added, without}
-use Rattle.r2_server.proofs.Limits.{added-few, kept_with-few, without-few}
 use Rattle.r2_frag.specs.Keys.{key_at}
 use Rattle.r2_frag.specs.Kept.{newest}
-use Rattle.r2_frag.specs.Sizes.{IsShort}
-use Rattle.r2_frag.proofs.Sizes.{stays_short, without-short}
+use Rattle.r2_frag.specs.Pending.{ArePending}
+use Rattle.r2_frag.specs.Replies.{IsReply}
+use Rattle.r2_frag.specs.Sizes.{IsBodyWithin}
+use Rattle.r2_frag.proofs.Pending.{pending-added, pending-none, pending-without}
+use Rattle.r2_frag.proofs.Sizes.{added-short}
 use Rattle.hc_service.specs.Service.{serve}
-use Rattle.hc_service.proofs.Maps.{R}
+use Rattle.hc_service.proofs.Short.{no_values, payload_short, served_short}
 use Rattle.r2_server.specs.declared.timers.Timer.{Timer}
-use Rattle.r2_server.specs.Sound.{CanServe, HadTurns, IsPartOfRequest, IsReply, IsShortAnswer, IsSound, IsSoundWithin, most_asked}
+use Rattle.r2_server.specs.Sound.{CanServe, HadTurns, IsPartOfRequest, IsSound, IsSoundWithin, turn_limit}
 use Rattle.r2_server.specs.Laws.{StaysWithinLimits}
 use Rattle.r2_server.specs.State.{ServerState, begin}
 use Rattle.r2_server.specs.Timers.{due, given_up, key_for}
 use Rattle.r2_server.specs.Turn.{answered, by_answer, first_part, is_taken, part_added, part_taken, received, received_as, received_part, repeated, replied, ticked, turned, turned_all, turned_by, unchanged}
 use Rattle.r2_server.proofs.Choices.{branch}
-use Rattle.r2_server.proofs.KeptReplies.{kept_with-is}
-use Rattle.r2_server.proofs.Parts.{added_is_short}
+use Rattle.r2_server.proofs.KeptReplies.{kept_with-few, kept_with-is}
 use Rattle.r2_server.proofs.Taken.{taken}
-use Rattle.r2_server.proofs.Values.{payload-short, serve-short}
 
 -- a new server
 pub begin_sound : (me : Addr) (router : Option Addr) → IsSound (begin me router)
 begin_sound me router =
     record {
       most_kept = omega arith;
-      most_unfinished = omega arith;
       kept = λ k d h. absurd (omega arith);
-      unfinished = λ k d h. absurd (omega arith);
-      contents = λ key. subst (λ (o : Option (List ℕ)). IfSome o (λ v. length v ≤ most_asked)) (sym (map.get-empty R key)) tt;
+      unfinished = pending-none;
+      contents = no_values;
       writes = omega arith;
       ticks = omega arith;
     }
 
 -- a sound server can serve a request
-pub can_serve : (s : ServerState) → IsSound s → s.turns < 2 ^ 57 → CanServe s
-can_serve s is h = record { kept = is.kept; unfinished = is.unfinished; contents = is.contents; writes = omega (arith, is.writes, h) }
+pub can_serve : (s : ServerState) → IsSound s → s.turns < turn_limit → CanServe s
+can_serve s is h = record { kept = is.kept; contents = is.contents; writes = omega (arith, is.writes, h) }
 
 module _ (n : ℕ) where
   same : (s : ServerState) → IsSoundWithin n s → IsSoundWithin (n + 1) s
   same s is =
       record {
         most_kept = is.most_kept;
-        most_unfinished = is.most_unfinished;
         kept = is.kept;
         unfinished = is.unfinished;
         contents = is.contents;
@@ -74,7 +74,6 @@ module _ (n : ℕ) where
   aged s timers is =
       record {
         most_kept = is.most_kept;
-        most_unfinished = is.most_unfinished;
         kept = is.kept;
         unfinished = is.unfinished;
         contents = is.contents;
@@ -86,27 +85,26 @@ module _ (n : ℕ) where
   unfolding repeated
   repeated_sound s key reply is = same s is
 
-  replied_sound : (s : ServerState) (key : Key) (body : List ℕ) → IsSoundWithin n s → key.policy ≤ 1 → length body ≤ most_asked
+  replied_sound : (s : ServerState) (key : Key) (body : List ℕ) → IsSoundWithin n s → key.policy ≤ jbsq → length body ≤ most_body
       → IsSoundWithin (n + 1) (replied s key (serve s.service.contents Write body)).server
   unfolding replied
   replied_sound s key body is policy short =
-      let served = serve-short s.service.contents Write body short is.contents in
+      let served = served_short s.service.contents Write body is.contents short in
       record {
         most_kept = kept_with-few s.kept _;
-        most_unfinished = is.most_unfinished;
-        kept = kept_with-is IsReply s.kept _ is.kept (record { policy = omega (arith, policy); payload = payload-short _ _ _ served.value });
+        kept = kept_with-is IsReply s.kept _ is.kept (record { policy = omega (arith, policy); payload = payload_short _ _ _ served.value });
         unfinished = is.unfinished;
         contents = served.contents;
         writes = omega (arith, is.writes);
         ticks = omega (arith, is.ticks);
       }
 
-  answered_sound : (s : ServerState) (key : Key) (body : List ℕ) (o : Option KeptReply) → IsSoundWithin n s → key.policy ≤ 1 → length body ≤ most_asked
+  answered_sound : (s : ServerState) (key : Key) (body : List ℕ) (o : Option KeptReply) → IsSoundWithin n s → key.policy ≤ jbsq → length body ≤ most_body
       → IsSoundWithin (n + 1) (answered s key body o).server
   answered_sound s key body None is policy short = replied_sound s key body is policy short
   answered_sound s key body (Some reply) is policy short = repeated_sound s key reply is
 
-  by_answer_sound : (s : ServerState) (type : Packet) (key : Key) (a : Added) → IsSoundWithin n s → key.policy ≤ 1 → IsShortAnswer a
+  by_answer_sound : (s : ServerState) (type : Packet) (key : Key) (a : Added) → IsSoundWithin n s → key.policy ≤ jbsq → IsBodyWithin Request a
       → IsSoundWithin (n + 1) (by_answer s type key a).server
   by_answer_sound s type key More is policy short = same _ (aged s _ is)
   by_answer_sound s type key Repeat is policy short = same s is
@@ -121,14 +119,13 @@ module _ (n : ℕ) where
       by_answer_sound (record s { unfinished = (added s.unfinished key h payload).1 }) h.packet key (added s.unfinished key h payload).0
       (record {
         most_kept = is.most_kept;
-        most_unfinished = added-few s.unfinished key h payload is.most_unfinished;
         kept = is.kept;
-        unfinished = stays_short s.unfinished key h payload is.unfinished part.valid part.class;
+        unfinished = pending-added s.unfinished key h payload is.unfinished part.valid part.class;
         contents = is.contents;
         writes = is.writes;
         ticks = is.ticks;
       })
-      part.policy (added_is_short s.unfinished key h payload is.unfinished part.valid part.class part.request)
+      part.policy (subst (λ (c : Class). IsBodyWithin c (added s.unfinished key h payload).0) part.request (added-short s.unfinished key h payload is.unfinished.short part.valid part.class).answer)
 
   first_part_sound : (s : ServerState) (h : Header) (payload : List ℕ) (key : Key) (o : Option KeptReply) → IsSoundWithin n s → IsPartOfRequest h key
       → IsSoundWithin (n + 1) (first_part s h payload key o).server
@@ -164,24 +161,18 @@ module _ (n : ℕ) where
   unfolding received
   received_sound s d is = received_as_sound s d (header_at d.bytes) is refl
 
-given_up_short : (late : List Timer) (messages : List Unfinished) → All IsShort messages → All IsShort (given_up late messages)
+given_up_pending : (late : List Timer) (messages : List Unfinished) → ArePending messages → ArePending (given_up late messages)
 unfolding given_up
-given_up_short [] messages all = all
-given_up_short (t ∷ late) messages all = given_up_short late (without (key_for t.rid) messages) (without-short (key_for t.rid) messages all)
-
-given_up-few : (n : ℕ) (late : List Timer) (messages : List Unfinished) → length messages ≤ n → length (given_up late messages) ≤ n
-unfolding given_up
-given_up-few n [] messages few = few
-given_up-few n (t ∷ late) messages few = given_up-few n late (without (key_for t.rid) messages) (without-few n (key_for t.rid) messages few)
+given_up_pending [] messages all = all
+given_up_pending (t ∷ late) messages all = given_up_pending late (without (key_for t.rid) messages) (pending-without (key_for t.rid) messages all)
 
 ticked_sound : (n : ℕ) (s : ServerState) → IsSoundWithin n s → IsSoundWithin (n + 1) (ticked s).server
 unfolding ticked
 ticked_sound n s is =
     record {
       most_kept = is.most_kept;
-      most_unfinished = given_up-few _ (due (s.ticks + 1) s.timers) s.unfinished is.most_unfinished;
       kept = is.kept;
-      unfinished = given_up_short (due (s.ticks + 1) s.timers) s.unfinished is.unfinished;
+      unfinished = given_up_pending (due (s.ticks + 1) s.timers) s.unfinished is.unfinished;
       contents = is.contents;
       writes = omega (arith, is.writes);
       ticks = omega (arith, is.ticks);
@@ -198,7 +189,6 @@ turned_sound s event is =
     let next = turned_by_sound s.turns s event is in
     record {
       most_kept = next.most_kept;
-      most_unfinished = next.most_unfinished;
       kept = next.kept;
       unfinished = next.unfinished;
       contents = next.contents;
@@ -221,4 +211,4 @@ one_turn s event (Some t) n e h = let same : s ≡ t = cc in let turns = ap (λ 
 pub limits : StaysWithinLimits
 limits me router events =
     let is = turned_all_sound (begin me router) events (begin_sound me router) in
-    record { kept = is.most_kept; unfinished = is.most_unfinished }
+    record { kept = is.most_kept; unfinished = is.unfinished.most }

@@ -6,8 +6,9 @@ use Rattle.r2_frag.specs.declared.unfinished.Unfinished.{Unfinished}
 use Rattle.hc_service.specs.State.{State, new_state}
 use Rattle.r2_server.specs.declared.timers.Timer.{Timer}
 
--- its address and its router's, the replies that it keeps, the oldest in front, the messages that aren't whole yet, the one
--- begun first in front, the requests among them that age, in the same order, its service, and how many ticks and turns it had
+-- its address and its router's, the replies that it keeps, the oldest at the head, the messages that aren't whole yet, the
+-- one begun first at the head, the requests among them that age, in the same order, its service, and how many ticks and
+-- turns it had
 pub record ServerState : Type 0 where
   pub me : Addr
   pub router : Option Addr

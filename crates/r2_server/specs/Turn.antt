@@ -3,6 +3,7 @@ use Rattle.std.specs.Prelude.{ℕ, ◌+◌, ◌==◌, ◌&&◌, ◌||◌, Bool, 
 use Rattle.std.specs.List.{flat_map}
 use Rattle.r2_base.specs.declared.addr.Addr.{Addr}
 use Rattle.r2_base.specs.declared.datagram.Datagram.{Datagram}
+use Rattle.r2_base.specs.Names.{same_addr}
 use Rattle.r2_base.specs.declared.entry.Kind.TheVariants.{Write}
 use Rattle.r2_base.specs.declared.event.Event.{Event}
 use Rattle.r2_base.specs.declared.event.Event.TheVariants.{Datagram as DatagramEvent, Tick, Quiet}
@@ -10,6 +11,7 @@ use Rattle.r2_header.specs.declared.header.Header.{Header}
 use Rattle.r2_header.specs.declared.header_fault.HeaderFault.{HeaderFault}
 use Rattle.r2_header.specs.declared.packet.Packet.{Packet}
 use Rattle.r2_header.specs.declared.packet.Packet.TheVariants.{Req0, ReqN}
+use Rattle.r2_header.specs.Policy.{fixed, jbsq}
 use Rattle.r2_header.specs.Reading.{header_at}
 use Rattle.r2_frag.specs.declared.added.Added.{Added}
 use Rattle.r2_frag.specs.declared.added.Added.TheVariants.{More, Whole, Repeat, Bad, Dropped}
@@ -17,15 +19,16 @@ use Rattle.r2_frag.specs.declared.key.Key.{Key}
 use Rattle.r2_frag.specs.declared.kept.KeptReply.{KeptReply}
 use Rattle.r2_frag.specs.Assembly.{added}
 use Rattle.r2_frag.specs.Kept.{kept_with, newest}
-use Rattle.r2_frag.specs.Keys.{key_at, same_addr}
+use Rattle.r2_frag.specs.Keys.{key_at}
+use Rattle.r2_frag.specs.Replies.{reply_parts}
 use Rattle.hc_service.specs.Replies.{reply_of}
 use Rattle.hc_service.specs.Service.{Served, serve}
 use Rattle.hc_service.specs.State.{after_write}
-use Rattle.r2_server.specs.Notices.{feedback, feedback_for, ready, reply_parts}
+use Rattle.r2_server.specs.Notices.{feedback, feedback_for, ready}
 use Rattle.r2_server.specs.State.{ServerState}
 use Rattle.r2_server.specs.Timers.{due, given_up, not_due, started_for, stopped_for}
 
--- a server behind an event, and what it sends
+-- a server after an event, and what it sends
 pub record Turned : Type 0 where
   pub server : ServerState
   pub sends : List Datagram
@@ -56,7 +59,7 @@ abbrev pub answered : ServerState → Key → List ℕ → Option KeptReply → 
 answered s key body None = replied s key (serve s.service.contents Write body)
 answered s key body (Some reply) = repeated s key reply
 
--- behind a first part the client is called on to send the others
+-- after a first part the client is called on to send the others
 abbrev pub calls : Addr → Packet → Key → List Datagram
 calls me Req0 key = ready me key ∷ []
 calls me _ key = []
@@ -94,11 +97,11 @@ abbrev pub is_router : Option Addr → Addr → Bool
 is_router (Some router) from = same_addr from router
 is_router None from = false
 
--- whether a server takes a packet: first parts of policy 0 from anybody and of policy 1 by the router, with the client's
--- address, and later parts of both policies
+-- whether a server takes a packet: first parts under FIXED from anybody and under JBSQ by the router, with the client's
+-- address, and later parts under both
 abbrev pub is_taken : Option Addr → Addr → Header → Packet → Bool
-is_taken router from h Req0 = (h.policy == 0) || ((h.policy == 1) && is_some h.client && is_router router from)
-is_taken router from h ReqN = nat_le h.policy 1
+is_taken router from h Req0 = (h.policy == fixed) || ((h.policy == jbsq) && is_some h.client && is_router router from)
+is_taken router from h ReqN = nat_le h.policy jbsq
 is_taken router from h _ = false
 
 -- a packet from this address, with its key where it has one

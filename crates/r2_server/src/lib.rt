@@ -2,8 +2,8 @@
 #![tactic(auto)]
 
 pub mod laws;
+mod live_server;
 mod notices;
-mod party;
 mod server;
 #[cfg(test)]
 mod tests;

@@ -1,8 +1,9 @@
-ghost use Rattle.std.specs.Prelude.{◌≡◌, ◌+◌, ℕ, Some, None, IfOk, OnOk, OnErr, is_none};
+ghost use Rattle.std.specs.Prelude.{◌≡◌, ◌+◌, ℕ, [], Some, None, Ok, IfOk, OnOk, OnErr, is_none};
 ghost use Rattle.hc_service.specs.State.{new_state};
+ghost use Rattle.r2_server.specs.Ignored.{IsIgnored};
 ghost use Rattle.r2_server.specs.Sound.{CanTurn, HadTurns, IsSoundUnlessSpent};
 
-use crate::party::Party;
+use crate::live_server::LiveServer;
 use crate::writes::Writes;
 use r2_base::{Addr, Datagrams, Event, NoMemory};
 use std::alloc::Global;
@@ -12,11 +13,11 @@ use std::marker::Model;
 ///
 /// It takes requests of the policy FIXED from anybody, and of the policy JBSQ by its router. Each is served once, as long
 /// as its reply is among the last 1,024, which are kept; a repeated request gets that reply again. An unfinished request
-/// that came by the router is given up at the 200th tick, or where 256 others were begun behind it, and the router is told
+/// that came by the router is given up at the 200th tick, or where 256 others were begun after it, and the router is told
 /// of each that is answered or given up.
 #[derive(Drop)]
 pub struct Server<V: Writes> {
-    party: Option<Party<V>>,
+    live: Option<LiveServer<V>>,
 }
 
 impl<V: Writes> Model for Server<V> {
@@ -30,9 +31,9 @@ impl<V: Writes> Model for Server<V> {
 
     ghost coded = { Prim.hlevel (codes, contents_code) };
 
-    ghost view = { λ a. a.party };
+    ghost view = { λ a. a.live };
 
-    ghost invariant = { λ a. IsSoundUnlessSpent a.party };
+    ghost invariant = { λ a. IsSoundUnlessSpent a.live };
 }
 
 impl<V: Writes> Server<V> {
@@ -49,8 +50,8 @@ impl<V: Writes> Server<V> {
         requires { V.state service ≡ new_state }
         ensures { IfOk result (λ server. server ≡ Some (begin me router)) }
     {
-        let party = Party::new(alloc, me, router, service)?;
-        Ok(Server { party: Some(party) })
+        let live = LiveServer::new(alloc, me, router, service)?;
+        Ok(Server { live: Some(live) })
     }
 
     /// Takes an event, and gives the datagrams to be sent, in their order.
@@ -62,12 +63,15 @@ impl<V: Writes> Server<V> {
         ensures sends { IfOk result (λ sends. (s : ServerState) → self.old ≡ Some s → sends ≡ (turned s event.now).sends) }
         ensures counted { OnOk result ((n : ℕ) → HadTurns n self.old → HadTurns (n + 1) self.new) }
         ensures spent { OnErr result (self.new ≡ None) }
+
+        // What is ignored takes no memory, so such bytes never spend a server.
+        ensures free { (s : ServerState) → self.old ≡ Some s → IsIgnored s event.now → result ≡ Ok [] }
     {
-        let Some(mut party) = self.party.take() else {
+        let Some(mut live) = self.live.take() else {
             unreachable!();
         };
-        let sends = party.turn(event)?;
-        self.party = Some(party);
+        let sends = live.turn(event)?;
+        self.live = Some(live);
         Ok(sends)
     }
 
@@ -75,6 +79,6 @@ impl<V: Writes> Server<V> {
     pub fn spent(&self) -> bool
         ensures { result ≡ is_none self.now }
     {
-        self.party.is_none()
+        self.live.is_none()
     }
 }

@@ -1,10 +1,11 @@
 ghost use Rattle.std.specs.Prelude.{◌≡◌, [], OnOk};
 ghost use Rattle.std.specs.List.{list_any};
-ghost use Rattle.r2_frag.specs.Keys.{same_rid};
+ghost use Rattle.r2_base.specs.Names.{same_rid};
 ghost use Rattle.r2_server.specs.Timers.{is_due, is_for};
 
 use r2_base::{NoMemory, Rid};
 use r2_frag::Key;
+use r2_header::policy::JBSQ;
 use std::alloc::Global;
 use std::marker::Model;
 
@@ -52,11 +53,11 @@ impl Timers {
         self.timers.as_slice()
     }
 
-    /// Lets a request age from this tick on, where it is under policy 1 and doesn't age already.
+    /// Lets a request age from this tick on, where it is under JBSQ and doesn't age already.
     pub(crate) fn start(&mut self, key: &Key, tick: u64) -> Result<(), NoMemory>
         ensures { OnOk result (self.new ≡ started_for key.now tick self.old) }
     {
-        if key.policy != 1 {
+        if key.policy != JBSQ {
             return Ok(());
         }
         self.start_rid(key.rid, tick)
@@ -84,7 +85,7 @@ impl Timers {
     pub(crate) fn stop(&mut self, key: &Key)
         ensures { self.new ≡ stopped_for key.now self.old }
     {
-        if key.policy == 1 {
+        if key.policy == JBSQ {
             self.stop_rid(&key.rid);
         }
     }
@@ -106,13 +107,10 @@ impl Timers {
 }
 
 /// Whether this is the timer of a request.
-#[tactic(auto, unfolding(r2_frag::specs::Keys::same_rid))]
 fn is_for(rid: &Rid, timer: &Timer) -> bool
     ensures { result ≡ is_for rid.now timer.now }
 {
-    timer.rid.id == rid.id
-        && timer.rid.client.ip == rid.client.ip
-        && timer.rid.client.port == rid.client.port
+    timer.rid == *rid
 }
 
 /// Whether a request has been unfinished for long enough at this tick.

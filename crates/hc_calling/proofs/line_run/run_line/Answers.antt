@@ -25,7 +25,7 @@ returns-in-Err-Outside-clause-stops g c = record {
 }
 
 pub make_call-requires-clause-short : goal.make_call-requires-clause-short
-make_call-requires-clause-short g c κs within =
+make_call-requires-clause-short g c =
     let short = body-short c.args.line.now c.in-Ok.call c.in-Ok.ensures.found in
     let same = ap (λ (l : List ℕ). length l) c.as_slice.ensures in
     omega (arith, short, same, c.requires.short)

@@ -24,18 +24,18 @@ returns-in_default-clause-stops g c = λ room.
       wrote = Appends-nil (g.K.Sink.written c.args.sink.now);
     })
 
-pub returns-then-not-is_due-clause-went : goal.returns-then-not-is_due-clause-went
-returns-then-not-is_due-clause-went g c =
+pub returns-then-not-pass_tick-clause-went : goal.returns-then-not-pass_tick-clause-went
+returns-then-not-pass_tick-clause-went g c =
     let link = c.args.link.now in
     let k = c.args.ticker.now in
     let s = c.args.session.now in
     let moment = c.in-Ok.moment in
-    let no : nat_lt k.reached (elapsed k.tick_ms k.start moment) ≡ false = sym c.is_due.ensures.due ∙ c.if-not-is_due.true in (
+    let no : nat_lt k.reached (elapsed k.tick_ms k.start moment) ≡ false = sym c.pass_tick.ensures.due ∙ c.if-not-pass_tick.true in (
       moment,
-      went-tells s s k c.is_due.new.self moment None (unchanged s)
+      went-tells s s k c.pass_tick.new.self moment None (unchanged s)
           (outside (g.L.Link.left link) (g.L.Link.sent link) (g.C.Clock.left c.args.clock.now) (g.K.Sink.written c.args.sink.now))
           (outside (g.L.Link.left link) (g.L.Link.sent link) (g.C.Clock.left c.now.new.self) (g.K.Sink.written c.args.sink.now))
-          c.is_due.ensures.counted (ap (stepped_by s) (not-due k moment no)) refl refl
+          c.pass_tick.ensures.counted (ap (stepped_by s) (not-due k moment no)) refl refl
           (tell-passes (g.L.Link.left link) (g.L.Link.left link) (g.L.Link.sent link) (g.L.Link.sent link) (g.C.Clock.left c.args.clock.now) (g.C.Clock.left c.now.new.self)
           (g.K.Sink.written c.args.sink.now) (g.K.Sink.written c.args.sink.now) moment [] [] c.in-Ok.ensures.moment (IsKept-refl (g.L.Link.left link))
           (Gains-none (g.L.Link.sent link) (g.L.Link.sent link) (IsKept-refl (g.L.Link.sent link))) (Appends-nil (g.K.Sink.written c.args.sink.now))),
@@ -47,7 +47,7 @@ returns-in-Err-clause-stops g c = λ room.
     let last = c.make_step.new.link in
     let k = c.args.ticker.now in
     let moment = c.in-Ok.moment in
-    let yes : nat_lt k.reached (elapsed k.tick_ms k.start moment) ≡ true = sym c.is_due.ensures.due ∙ c.if-not-is_due.false in
+    let yes : nat_lt k.reached (elapsed k.tick_ms k.start moment) ≡ true = sym c.pass_tick.ensures.due ∙ c.if-not-pass_tick.false in
     stops-telling c.args.session.now k moment (g.L.Link.left link) (g.L.Link.left last) (g.L.Link.sent link) (g.L.Link.sent last)
     (g.C.Clock.left c.args.clock.now) (g.C.Clock.left c.now.new.self) (g.K.Sink.written c.args.sink.now) room c.in-Err.status
     (is-due k moment yes) c.in-Ok.ensures.moment c.in-Err.ensures.left c.in-Err.ensures.stops
@@ -59,12 +59,12 @@ returns-in-Ok-print_end-clause-stops g c = λ room.
     let k = c.args.ticker.now in
     let s = c.args.session.now in
     let moment = c.in-Ok.moment in
-    let yes : nat_lt k.reached (elapsed k.tick_ms k.start moment) ≡ true = sym c.is_due.ensures.due ∙ c.if-not-is_due.false in
+    let yes : nat_lt k.reached (elapsed k.tick_ms k.start moment) ≡ true = sym c.pass_tick.ensures.due ∙ c.if-not-pass_tick.false in
     let made = c.in-Ok-make_step.ensures.made in
     let ended : Some c.in-Some.end ≡ (stepped s Tick).step.end = sym c.in-Some.is ∙ made.ended in
-    times-out s c.make_step.new.session k c.is_due.new.self moment c.in-Some.end (g.L.Link.left link) (g.L.Link.left last) (g.L.Link.sent link) (g.L.Link.sent last)
+    times-out s c.make_step.new.session k c.pass_tick.new.self moment c.in-Some.end (g.L.Link.left link) (g.L.Link.left last) (g.L.Link.sent link) (g.L.Link.sent last)
     (g.C.Clock.left c.args.clock.now) (g.C.Clock.left c.now.new.self) (g.K.Sink.written c.args.sink.now) (g.K.Sink.written c.print_end.new.sink) room
-    (is-due k moment yes) c.is_due.ensures.counted c.in-Ok.ensures.moment c.in-Ok-make_step.ensures.left made.gave made.session ended
+    (is-due k moment yes) c.pass_tick.ensures.counted c.in-Ok.ensures.moment c.in-Ok-make_step.ensures.left made.gave made.session ended
     (timed-out s (stepped s Tick) c.in-Some.end (sym ended) (tick-times-out s)) c.in-Ok-print_end.ensures.whole
 
 pub returns-in-Some-clause-stops : goal.returns-in-Some-clause-stops
@@ -74,7 +74,7 @@ returns-in-Some-clause-stops g c = λ room.
     let k = c.args.ticker.now in
     let s = c.args.session.now in
     let moment = c.in-Ok.moment in
-    let yes : nat_lt k.reached (elapsed k.tick_ms k.start moment) ≡ true = sym c.is_due.ensures.due ∙ c.if-not-is_due.false in
+    let yes : nat_lt k.reached (elapsed k.tick_ms k.start moment) ≡ true = sym c.pass_tick.ensures.due ∙ c.if-not-pass_tick.false in
     let made = c.in-Ok-make_step.ensures.made in
     let ended : Some c.in-Some.end ≡ (stepped s Tick).step.end = sym c.in-Some.is ∙ made.ended in
     stops-line-tells s k moment c.in-Some.end (g.L.Link.left link) (g.L.Link.left last) (g.L.Link.sent link) (g.L.Link.sent last)
@@ -89,14 +89,14 @@ returns-clause-went g c =
     let k = c.args.ticker.now in
     let s = c.args.session.now in
     let moment = c.in-Ok.moment in
-    let yes : nat_lt k.reached (elapsed k.tick_ms k.start moment) ≡ true = sym c.is_due.ensures.due ∙ c.if-not-is_due.false in
+    let yes : nat_lt k.reached (elapsed k.tick_ms k.start moment) ≡ true = sym c.pass_tick.ensures.due ∙ c.if-not-pass_tick.false in
     let made = c.in-Ok-make_step.ensures.made in
     let ended : None ≡ (stepped s Tick).step.end = sym c.in-None.is ∙ made.ended in (
       moment,
-      went-tells s c.make_step.new.session k c.is_due.new.self moment None (stepped s Tick)
+      went-tells s c.make_step.new.session k c.pass_tick.new.self moment None (stepped s Tick)
           (outside (g.L.Link.left link) (g.L.Link.sent link) (g.C.Clock.left c.args.clock.now) (g.K.Sink.written c.args.sink.now))
           (outside (g.L.Link.left last) (g.L.Link.sent last) (g.C.Clock.left c.now.new.self) (g.K.Sink.written c.args.sink.now))
-          c.is_due.ensures.counted (ap (stepped_by s) (is-due k moment yes)) made.session ended
+          c.pass_tick.ensures.counted (ap (stepped_by s) (is-due k moment yes)) made.session ended
           (tell-passes (g.L.Link.left link) (g.L.Link.left last) (g.L.Link.sent link) (g.L.Link.sent last) (g.C.Clock.left c.args.clock.now) (g.C.Clock.left c.now.new.self)
           (g.K.Sink.written c.args.sink.now) (g.K.Sink.written c.args.sink.now) moment (stepped s Tick).step.sends [] c.in-Ok.ensures.moment c.in-Ok-make_step.ensures.left
           made.gave (Appends-nil (g.K.Sink.written c.args.sink.now))),

@@ -1,6 +1,6 @@
 use Rattle.std.proofs.Common.{arith, subst}
 use Rattle.std.proofs.lemmas.Grind.{common_steps}
-use Rattle.hc_message.specs.Entry.{FitsRid}
+use Rattle.r2_base.specs.Names.{FitsRid}
 use Rattle.hc_log.specs.declared.stored.Stored.{Stored}
 use Rattle.hc_journal.proofs.RecordLoop.{fits_more}
 use Rattle.hc_journal.proofs.record_writing.push_entries.Goals as goal

@@ -1,6 +1,6 @@
 use Rattle.std.proofs.Common.{◌≡◌, ◌++◌, All, take}
 use Rattle.std.specs.List.{flat_map}
-use Rattle.hc_message.specs.Entry.{FitsRid}
+use Rattle.r2_base.specs.Names.{FitsRid}
 use Rattle.hc_journal.specs.Record.{stored_bytes}
 use Rattle.hc_journal.proofs.record_writing.push_entries.Given as goal
 

@@ -1,5 +1,6 @@
 use Rattle.std.proofs.Common.{◌≡◌, ◌≤◌, ℕ, List, length, append_assoc, rules, subst, sym}
 use Rattle.hc_journal.specs.Record.{record_bytes}
+use Rattle.hc_journal.specs.RecordLaws.{most_record_bytes}
 use Rattle.hc_journal.proofs.RecordLaws.{records_are_short, spelling_is_read}
 use Rattle.hc_journal.proofs.record_writing.record_bytes.Goals as goal
 
@@ -13,4 +14,4 @@ pub returns-clause-short : goal.returns-clause-short
 unfolding record_bytes
 returns-clause-short c =
     let same : c.from_vec.result ≡ record_bytes c.args.r.now = search (rules, append_assoc) in
-    subst (λ (bytes : List ℕ). length bytes ≤ 3933459) (sym same) (records_are_short c.args.r.now c.requires)
+    subst (λ (bytes : List ℕ). length bytes ≤ most_record_bytes) (sym same) (records_are_short c.args.r.now c.requires)

@@ -39,8 +39,8 @@ rounds-init g c =
       clock_steady = c.in-Ok.ensures.steady;
     }
 
-pub take_item-requires-after_bounds : goal.take_item-requires-after_bounds
-take_item-requires-after_bounds g c = λ κ bounds. let room = c.rounds.invariant.room in (room.0, omega (arith, room.1, c.rounds-test.true, c.requires.turns), room.2)
+pub take_item-requires : goal.take_item-requires
+take_item-requires g c = let room = c.rounds.invariant.room in (room.0, omega (arith, room.1, c.rounds-test.true, c.requires.turns), room.2)
 
 pub returns-in-Ok-false-clause-ran : goal.returns-in-Ok-false-clause-ran
 returns-in-Ok-false-clause-ran g c =

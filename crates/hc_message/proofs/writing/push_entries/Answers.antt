@@ -6,5 +6,5 @@ use Rattle.hc_message.proofs.writing.push_entries.Goals as goal
 pub entries-preserved : goal.entries-preserved
 entries-preserved c = record {
   written = grind (arith, common_steps);
-  fits = fits_more c.args.entries.now c.entries.entry-index _ c.entries-test.true c.entries.invariant.fits c.entry_bytes.ensures.fits;
+  fits = fits_more c.args.entries.now c.entries.entry-index _ c.entries-test.true c.entries.invariant.fits c.in_ok-push_entry.ensures.fits;
 }

@@ -1,6 +1,5 @@
 -- The loop's own record, told of the link that takes its twin back.
-use Rattle.std.proofs.Common.{◌≡◌}
-use Rattle.hc_routing.proofs.Twins.{runs-on-twin, twin-rose}
+use Rattle.hc_routing.proofs.Twins.{runs-on-twin}
 use Rattle.hc_routing.proofs.on_twin.serve_on_twin.Goals as goal
 
 pub returns-clause-ran : goal.returns-clause-ran

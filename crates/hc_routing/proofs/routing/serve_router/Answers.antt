@@ -1,19 +1,19 @@
 -- The loop over a new router is one over the empty history, and the totals are those of what its events made of it.
-use Rattle.std.proofs.Common.{◌≡◌, List, sym, subst}
+use Rattle.std.proofs.Common.{List, sym, subst}
 use Rattle.r2_base.specs.declared.datagram.Datagram.{Datagram}
 use Rattle.r2_base.specs.declared.event.Event.{Event}
-use Rattle.r2_jbsq.specs.declared.setup.Setup.{Setup}
-use Rattle.hc_routing.specs.declared.totals.Totals.{Totals}
+use Rattle.r2_jbsq.specs.declared.router_setup.RouterSetup.{RouterSetup}
+use Rattle.hc_routing.specs.declared.router_totals.RouterTotals.{RouterTotals}
 use Rattle.hc_routing.specs.Routed.{RouterSends}
 use Rattle.hc_routing.specs.Totals.{totals_line}
 use Rattle.hc_routing.specs.Twins.{Around}
-use Rattle.hc_routing.proofs.Routes.{Counted, ends-well, new-counted, new-sends, routes-of}
+use Rattle.hc_routing.proofs.Routes.{Counted, new-counted, new-sends, routes-of}
 use Rattle.hc_routing.proofs.Twins.{on-twin-weaker}
 use Rattle.hc_routing.proofs.routing.serve_router.Goals as goal
 
 pub returns-in-Ok-serve_on_twin-clause-ran : goal.returns-in-Ok-serve_on_twin-clause-ran
 returns-in-Ok-serve_on_twin-clause-ran g c =
-    let setup : Setup = record { me = c.args.me; servers = c.args.servers; n = c.args.n } in
+    let setup : RouterSetup = record { me = c.args.me; servers = c.args.servers; n = c.args.n } in
     let a : Around = record { lanes = g.L.Link.lanes c.args.link.now; sent = g.L.Link.sent c.args.link.now; clock = g.C.Clock.left c.args.clock.now } in
     let b : Around = record { lanes = g.L.Link.lanes c.serve_on_twin.new.link; sent = g.L.Link.sent c.serve_on_twin.new.link; clock = g.C.Clock.left c.serve_on_twin.new.clock } in
     let t = c.totals.result in
@@ -22,7 +22,7 @@ returns-in-Ok-serve_on_twin-clause-ran g c =
     let last = c.serve_on_twin.new.party in
     let counted : (events : List Event) (sends : List Datagram) → _ → Counted setup line events sends =
     λ events sends becomes.
-    subst (λ (u : Totals). Counted setup (totals_line u.turns u.accepted u.forwarded u.answered) events sends) (sym c.totals.ensures)
+    subst (λ (u : RouterTotals). Counted setup (totals_line u.turns u.accepted u.forwarded u.answered) events sends) (sym c.totals.ensures)
     (new-counted setup first.router last.router first.turns last.turns events sends c.in-Ok.ensures.0 c.in-Ok.ensures.1 becomes) in
     routes-of setup c.args.pace line a b (g.K.Sink.written c.args.sink.now) (g.K.Sink.written c.tell_end.new.sink) c.in-Ok-serve_on_twin.ended c.tell_end.result
     (on-twin-weaker _ (Counted setup line) _ (RouterSends setup) counted

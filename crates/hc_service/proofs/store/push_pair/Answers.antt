@@ -2,8 +2,8 @@ use Rattle.std.proofs.Common.{arith}
 use Rattle.hc_service.proofs.Scans.{length-pair_bytes}
 use Rattle.hc_service.proofs.store.push_pair.Goals as goal
 
-pub returns-then-len-size-gt-MOST_SCANNED-clause-fits : goal.returns-then-len-size-gt-MOST_SCANNED-clause-fits
-returns-then-len-size-gt-MOST_SCANNED-clause-fits c =
+pub returns-then-len-size-clause-fits : goal.returns-then-len-size-clause-fits
+returns-then-len-size-clause-fits c =
     let size = length-pair_bytes c.args.key.now c.args.value.now in
     grind (arith, size)
 

@@ -1,5 +1,4 @@
 -- Behind a bind nothing passed yet.
-use Rattle.std.proofs.Common.{◌≡◌, ℕ}
 use Rattle.hc_status.specs.declared.status.Status.{Status}
 use Rattle.hc_calling.specs.Calls.{Calls, DoesNothing}
 use Rattle.hc_calling.specs.Outside.{Outside, outside}

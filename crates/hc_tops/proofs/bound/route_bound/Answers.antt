@@ -1,5 +1,4 @@
 -- A bind does nothing that is told.
-use Rattle.std.proofs.Common.{◌≡◌}
 use Rattle.hc_loops.proofs.Told.{IsKept-refl}
 use Rattle.hc_routing.specs.Twins.{Around}
 use Rattle.hc_routing.proofs.Routes.{routes-from}

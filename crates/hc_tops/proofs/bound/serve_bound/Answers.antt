@@ -1,5 +1,5 @@
 -- Behind a bind nothing passed yet.
-use Rattle.std.proofs.Common.{◌≡◌, []}
+use Rattle.std.proofs.Common.{[]}
 use Rattle.hc_status.specs.declared.status.Status.{Status}
 use Rattle.hc_loops.specs.Loop.{Serves}
 use Rattle.hc_loops.specs.Outside.{Outside, Passes}

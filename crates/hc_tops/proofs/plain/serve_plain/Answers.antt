@@ -1,5 +1,4 @@
 -- A loop over a new server is one over the turns of the server that begins.
-use Rattle.std.proofs.Common.{◌≡◌, List}
 use Rattle.hc_tops.specs.Plain.{PlainSends}
 use Rattle.hc_tops.proofs.PlainTurns.{plain-sends}
 use Rattle.hc_loops.proofs.Weaker.{serves-nothing, serves-weaker}

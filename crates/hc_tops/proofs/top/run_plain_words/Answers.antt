@@ -1,12 +1,12 @@
 -- What the words mean is within the limits of the calls; without memory nothing was done.
-use Rattle.std.proofs.Common.{◌≡◌, map, List, ℕ}
+use Rattle.std.proofs.Common.{map}
 use Rattle.std.specs.String.{string_bytes}
 use Rattle.hc_calling.specs.Outside.{outside}
 use Rattle.hc_tops.proofs.Meanings.{means_within, runs-nothing}
 use Rattle.hc_tops.proofs.top.run_plain_words.Goals as goal
 
-pub run_plain_meant-requires-after_bounds : goal.run_plain_meant-requires-after_bounds
-run_plain_meant-requires-after_bounds g c κs within = means_within (map (λ w. string_bytes w) c.args.words.now) c.in-Ok.meant c.in-Ok.ensures.found
+pub run_plain_meant-requires : goal.run_plain_meant-requires
+run_plain_meant-requires g c = means_within (map (λ w. string_bytes w) c.args.words.now) c.in-Ok.meant c.in-Ok.ensures.found
 
 pub returns-in-Err-Memory-clause-ran : goal.returns-in-Err-Memory-clause-ran
 returns-in-Err-Memory-clause-ran g c = λ m means plain.

@@ -1,7 +1,7 @@
-use Rattle.hc_world.specs.Runs.{world_of}
-use Rattle.hc_world.proofs.Steps.{runs_keep}
+use Rattle.hc_world.specs.Runs.{state_after}
+use Rattle.hc_world.proofs.Answers.{runs_keep}
 use Rattle.hc_world.proofs.Agreement.{none_twice}
 use Rattle.hc_world.proofs.laws.no_request_stands_twice.Goals as goal
 
 pub returns : goal.returns
-returns c = λ members most rules r. none_twice (world_of members most rules) (runs_keep members most rules r)
+returns c = λ members bounds rules r. none_twice (state_after members bounds rules) (runs_keep members bounds rules r)

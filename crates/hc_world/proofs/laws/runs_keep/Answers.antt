@@ -1,4 +1,4 @@
-use Rattle.hc_world.proofs.Steps.{runs_keep}
+use Rattle.hc_world.proofs.Answers.{runs_keep}
 use Rattle.hc_world.proofs.laws.runs_keep.Goals as goal
 
 pub returns : goal.returns

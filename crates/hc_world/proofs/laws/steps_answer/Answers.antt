@@ -1,4 +1,4 @@
-use Rattle.hc_world.proofs.Answers.{steps_answer}
+use Rattle.hc_world.proofs.RuleLists.{steps_answer}
 use Rattle.hc_world.proofs.laws.steps_answer.Goals as goal
 
 pub returns : goal.returns

@@ -1,19 +1,20 @@
 -- The first bytes are those of the number that they give.
-use Rattle.std.proofs.Common.{◌∙◌, arith}
-use Rattle.r2_base.proofs.NumberBytes.{u32_bytes-begin, u32_bytes-first}
+use Rattle.std.proofs.Common.{◌^◌, ◌∙◌, arith}
+use Rattle.r2_base.specs.Numbers.{u32_bytes}
+use Rattle.r2_base.proofs.NumberBytes.{wide32, wide-begin, wide-first}
 use Rattle.r2_base.proofs.Splits.{from-on}
 use Rattle.r2_base.proofs.numbers.split_u32.Goals as goal
 
 pub returns-then-bytes-lt4-clause-only : goal.returns-then-bytes-lt4-clause-only
 returns-then-bytes-lt4-clause-only c n rest fits same =
-    let first = u32_bytes-first c.args.bytes.now n rest fits same in
-    omega (arith, first.0)
+    let first = wide-first 4 (2 ^ 32) u32_bytes wide32 c.args.bytes.now n rest fits same in
+    omega (arith, first.long)
 
 pub returns-clause-found : goal.returns-clause-found
 returns-clause-found c =
-    rw (from-on 4 c.args.bytes.now) (u32_bytes-begin c.args.bytes.now c.from_be_bytes-n.result (λ i. (c.type_inv.bytes i).fits) c.if-bytes-lt4.false c.from_be_bytes-n.ensures)
+    rw (from-on 4 c.args.bytes.now, c.read_u32-n.ensures) (wide-begin 4 (2 ^ 32) u32_bytes wide32 c.args.bytes.now (λ i. (c.type_inv.bytes i).fits) c.if-bytes-lt4.false)
 
 pub returns-clause-only : goal.returns-clause-only
 returns-clause-only c n rest fits same =
-    let first = u32_bytes-first c.args.bytes.now n rest fits same in
-    (c.from_be_bytes-n.ensures ∙ first.1, from-on 4 c.args.bytes.now ∙ first.2)
+    let first = wide-first 4 (2 ^ 32) u32_bytes wide32 c.args.bytes.now n rest fits same in
+    (c.read_u32-n.ensures ∙ first.number, from-on 4 c.args.bytes.now ∙ first.after)

@@ -9,7 +9,7 @@ forward-requires c =
     let chosen = chosen-Some c.args.setup.now.n c.args.requests.now.rows c.in-Forward.server fits.chosen in
     omega (arith, chosen.inside, c.requires.rows)
 
-pub returns-in-Close : goal.returns-in-Close
-returns-in-Close c =
+pub returns-in-Close-clause-sends : goal.returns-in-Close-clause-sends
+returns-in-Close-clause-sends c =
     let fits = rw c.in-Close.is at c.requires.fits in
     rw (c.in-Close.is, next_closed c.args.setup.now.n c.in-Close.field-0 c.in-Close.server c.args.requests.now c.requires.full fits) c.forward_first.ensures

@@ -7,6 +7,7 @@ use Rattle.hc_log.specs.Log.{blank_of, requests_of}
 use Rattle.hc_replay.specs.Turn.{Sent, applied_all, batch_of}
 use Rattle.std.specs.Prelude.{All, ◌≤◌, List}
 use Rattle.std.proofs.Common.{subst}
+use Rattle.r2_base.specs.Limits.{most_body}
 use Rattle.hc_replay.proofs.Counts.{writes_of-front, own_reads_of-front}
 use Rattle.hc_replay.specs.Operations.{IsReplayed}
 use Rattle.hc_replay.proofs.Replayed.{applied_one-replayed}
@@ -32,7 +33,7 @@ entries-preserved c =
     let stored : Stored = get_or m.log m.applied (blank_of 0) in
     let in_log : m.applied < length m.log = omega arith in
     let there : slice_get m.log m.applied ≡ Some stored = slice_get-get_or m.log m.applied (blank_of 0) in_log in
-    let short : length stored.body ≤ 61440 = c.entries.invariant.bodies m.applied (blank_of 0) in_log in
+    let short : length stored.body ≤ most_body = c.entries.invariant.bodies m.applied (blank_of 0) in_log in
     let at = c.in_ok-apply_next.ensures.state stored there in
     let leaves = applied_one-leaves c.args.setup.now m stored in
     let log = ap (λ (n : Member). n.log) at ∙ leaves.log in
@@ -43,7 +44,7 @@ entries-preserved c =
     record {
       there = omega (arith, size, applied);
       fits = omega (arith, size);
-      bodies = subst (λ (l : List Stored). All (λ (x : Stored). length x.body ≤ 61440) l) (sym log) c.entries.invariant.bodies;
+      bodies = subst (λ (l : List Stored). All (λ (x : Stored). length x.body ≤ most_body) l) (sym log) c.entries.invariant.bodies;
       answers = subst CanAnswer (sym at) (applied_one-answers c.args.setup.now m stored short c.entries.invariant.answers);
       requests = subst (λ (l : List Stored). requests_of l ≤ 1048576) (sym log) c.entries.invariant.requests;
       service = subst (λ (n : Member). IsReplayed c.args.setup.now.me (take n.applied n.log) n.service) (sym at) (applied_one-replayed c.args.setup.now m stored there c.entries.invariant.service);

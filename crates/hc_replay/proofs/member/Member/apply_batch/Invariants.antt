@@ -1,6 +1,7 @@
 -- What is left of the batch, from the member as it is now, leads to the same member and the same replies.
 use Rattle.std.proofs.Common.{◌≡◌, ◌^◌, ◌+◌, ◌-◌, ◌≤◌, ◌++◌, length, take, drop}
 use Rattle.std.specs.Prelude.{All}
+use Rattle.r2_base.specs.Limits.{most_body}
 use Rattle.hc_log.specs.declared.stored.Stored.{Stored}
 use Rattle.hc_log.specs.Log.{requests_of}
 use Rattle.hc_replay.specs.Operations.{IsReplayed}
@@ -12,7 +13,7 @@ abbrev pub invariant-entries : goal.invariant-entries
 invariant-entries l = record {
   there : l.self.applied + (l.done-end - l.done) ≤ length l.self.log;
   fits : length l.self.log ≤ 2 ^ 62;
-  bodies : All (λ (stored : Stored). length stored.body ≤ 61440) l.self.log;
+  bodies : All (λ (stored : Stored). length stored.body ≤ most_body) l.self.log;
   answers : CanAnswer l.self;
   requests : requests_of l.self.log ≤ 1048576;
   service : IsReplayed l.setup.me (take l.self.applied l.self.log) l.self.service;

@@ -3,7 +3,7 @@ use Rattle.std.proofs.Common.{length, sym, ap, ◌∙◌, arith}
 use Rattle.hc_replay.proofs.Answering.{resent-none, resent-some, answered_as}
 use Rattle.r2_base.specs.declared.addr.Addr.{Addr}
 use Rattle.hc_replay.specs.Member.{own_address}
-use Rattle.hc_replay.specs.Replies.{reply_parts}
+use Rattle.r2_frag.specs.Replies.{reply_parts}
 use Rattle.hc_replay.proofs.member.Member.resend.Goals as goal
 
 pub returns-in_default : goal.returns-in_default
@@ -15,8 +15,8 @@ reply_parts-requires-clause-policy c =
     let found = resent-some c.args.setup.now c.args.request.now c.args.self.now.kept c.find.result c.requires.replies c.in-Some.policy c.in-Some.payload c.find.ensures c.in-Some.is in
     found.policy_fits
 
-pub reply_parts-requires-clause-limit : goal.reply_parts-requires-clause-limit
-reply_parts-requires-clause-limit c =
+pub reply_parts-requires-clause-payload : goal.reply_parts-requires-clause-payload
+reply_parts-requires-clause-payload c =
     let found = resent-some c.args.setup.now c.args.request.now c.args.self.now.kept c.find.result c.requires.replies c.in-Some.policy c.in-Some.payload c.find.ensures c.in-Some.is in
     let size = ap length c.as_slice.ensures in
     omega (arith, size, found.payload_fits)
@@ -24,4 +24,4 @@ reply_parts-requires-clause-limit c =
 pub returns : goal.returns
 returns c =
     let found = resent-some c.args.setup.now c.args.request.now c.args.self.now.kept c.find.result c.requires.replies c.in-Some.policy c.in-Some.payload c.find.ensures c.in-Some.is in
-    answered_as c.reply_parts.result _ _ (ap (λ (a : Addr). reply_parts a c.in-Some.policy c.args.request.now.rid c.as_slice.result.now) c.own_address-from.ensures ∙ ap (reply_parts (own_address c.args.setup.now) c.in-Some.policy c.args.request.now.rid) c.as_slice.ensures ∙ sym found.sends) c.reply_parts.ensures
+    answered_as c.reply_parts.result _ _ (ap (λ (a : Addr). reply_parts a c.args.request.now.rid c.in-Some.policy c.as_slice.result.now) c.own_address-from.ensures ∙ ap (reply_parts (own_address c.args.setup.now) c.args.request.now.rid c.in-Some.policy) c.as_slice.ensures ∙ sym found.sends) c.reply_parts.ensures

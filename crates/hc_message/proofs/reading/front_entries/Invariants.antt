@@ -1,0 +1,9 @@
+use Rattle.std.proofs.Common.{◌≡◌, ◌-◌}
+use Rattle.hc_message.specs.Reading.{front_entries}
+use Rattle.hc_message.proofs.EntriesLoop.{with_front}
+use Rattle.hc_message.proofs.reading.front_entries.Given as goal
+
+-- what was read and what is still read are all that is read
+abbrev pub invariant-entries : goal.invariant-entries
+invariant-entries l =
+    with_front l.entries.items (front_entries (l.count - l.counter) l.lowest l.most l.rest) ≡ front_entries l.count l.least l.most l.bytes

@@ -1,9 +1,0 @@
-use r2_base::{Addr, Addrs};
-
-/// A router's own address, its servers, and how many requests each of them may hold.
-#[derive(Debug, Drop)]
-pub struct Setup {
-    pub me: Addr,
-    pub servers: Addrs,
-    pub n: u8,
-}
