@@ -11,8 +11,8 @@ use Rattle.r2_base.specs.Addr.{IsAddrText, addr_text, ip_text}
 use Rattle.r2_base.specs.Text.{IsSplit}
 use Rattle.r2_base.proofs.Decimals.{decimal_without}
 use Rattle.r2_base.proofs.Splits.{split-none}
-use Rattle.hc_script.specs.declared.text_fault.TextFault.{TextFault}
-use Rattle.hc_script.specs.declared.text_fault.TextFault.TheVariants.{Memory}
+use Rattle.cmd_script.specs.declared.text_fault.TextFault.{TextFault}
+use Rattle.cmd_script.specs.declared.text_fault.TextFault.TheVariants.{Memory}
 use Rattle.hc_text.specs.Words.{IsAddrList}
 
 -- ---- an address has no comma

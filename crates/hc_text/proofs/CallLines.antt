@@ -9,8 +9,8 @@ use Rattle.r2_base.specs.Text.{IsSplit}
 use Rattle.hc_service.specs.Command.{Command, Get, Put, Del, Cas, Scan, Count}
 use Rattle.hc_service.specs.Spelling.{FitsCommand, spelling}
 use Rattle.hc_text.specs.declared.call.Call.{Call}
-use Rattle.hc_script.specs.declared.text_fault.TextFault.{TextFault}
-use Rattle.hc_script.specs.declared.text_fault.TextFault.TheVariants.{Outside, Memory}
+use Rattle.cmd_script.specs.declared.text_fault.TextFault.{TextFault}
+use Rattle.cmd_script.specs.declared.text_fault.TextFault.TheVariants.{Outside, Memory}
 use Rattle.hc_text.specs.Call.{GivesBody, IsCallLine, IsLimitText, IsPlainText, IsValueText, Is, Says, Spaced, call_of, mode_word}
 
 -- ---- where a text is cut

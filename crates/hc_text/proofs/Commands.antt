@@ -7,8 +7,8 @@ use Rattle.r2_base.specs.declared.addr.Addr.{Addr}
 use Rattle.hc_text.specs.declared.meant.Meant.{Meant}
 use Rattle.hc_text.specs.declared.meant.Meant.TheVariants.{Router, Server, Client, Replay}
 use Rattle.hc_text.specs.declared.policy.Policy.{Policy}
-use Rattle.hc_script.specs.declared.text_fault.TextFault.{TextFault}
-use Rattle.hc_script.specs.declared.text_fault.TextFault.TheVariants.{Outside, Memory}
+use Rattle.cmd_script.specs.declared.text_fault.TextFault.{TextFault}
+use Rattle.cmd_script.specs.declared.text_fault.TextFault.TheVariants.{Outside, Memory}
 use Rattle.hc_text.specs.Options.{AreOptions, AreTaken, IsSimpleCommand, rows_of_words}
 use Rattle.hc_text.specs.Words.{client_command, command_of, replay_command, router_command, server_command, Means, Says, SaysClient, SaysReplay, SaysRouter, SaysServer}
 use Rattle.hc_text.proofs.Somes.{some_same}

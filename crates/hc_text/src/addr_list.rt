@@ -3,7 +3,7 @@ ghost use Rattle.r2_base.specs.declared.addr.Addr.{Addr as AddrSpec};
 ghost use Rattle.r2_base.specs.Addr.{IsAddrText};
 ghost use Rattle.hc_text.specs.Words.{IsAddrList};
 
-use hc_script::TextFault;
+use cmd_script::TextFault;
 use r2_base::{Addr, Addrs, read_addr, split_once};
 use std::alloc::Global;
 

@@ -6,7 +6,7 @@ ghost use Rattle.hc_text.specs.declared.call.Call.{Call as CallSpec};
 use crate::body::{cas_body, count_body, del_body, get_body, put_body, scan_body};
 use crate::call::Call;
 use crate::value::{read_sized, read_value};
-use hc_script::TextFault;
+use cmd_script::TextFault;
 use r2_base::{read_decimal, split_once};
 use std::alloc::Global;
 

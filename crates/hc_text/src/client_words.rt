@@ -13,7 +13,7 @@ use crate::options::{
 };
 use crate::policy::Policy;
 use clap::{ArgMatches, Command};
-use hc_script::TextFault;
+use cmd_script::TextFault;
 use r2_base::NoMemory;
 use std::alloc::Global;
 

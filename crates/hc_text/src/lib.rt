@@ -19,8 +19,8 @@ mod words;
 
 pub use call::Call;
 pub use calls::client_line;
+pub use cmd_script::{Line, TextFault, out_text, rec_text, replay_line};
 pub use end::end_text;
-pub use hc_script::{Line, TextFault, out_text, rec_text, replay_line};
 pub use meant::Meant;
 pub use policy::{Policy, policy_of};
 pub use words::meaning;

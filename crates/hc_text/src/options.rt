@@ -9,7 +9,7 @@ ghost use Rattle.hc_text.specs.Options.{command_with, defaulted, optional, requi
 use crate::addr_list::read_addr_list;
 use clap::error::ErrorKind;
 use clap::{Arg, ArgMatches, Command};
-use hc_script::TextFault;
+use cmd_script::TextFault;
 use r2_base::{Addr, Addrs, NoMemory, read_addr, read_decimal};
 use std::alloc::Global;
 

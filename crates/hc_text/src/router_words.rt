@@ -8,7 +8,7 @@ ghost use Rattle.hc_text.specs.Words.{command_of, router_command, Means, Says, S
 use crate::meant::Meant;
 use crate::options::{addr_of, addrs_of, bare, defaulted, number_of, parse, required, with};
 use clap::{ArgMatches, Command};
-use hc_script::TextFault;
+use cmd_script::TextFault;
 use r2_base::NoMemory;
 use std::alloc::Global;
 

@@ -10,7 +10,7 @@ use crate::options::{
     addr_of, bare, defaulted, number_of, optional, optional_addr_of, parse, required, with,
 };
 use clap::{ArgMatches, Command};
-use hc_script::TextFault;
+use cmd_script::TextFault;
 use r2_base::NoMemory;
 use std::alloc::Global;
 

@@ -2,7 +2,7 @@ ghost use Rattle.std.specs.Prelude.{◌≡◌, ◌≢◌, ◌++◌, ◌<◌, ◌
 ghost use Rattle.hex.specs.Hex.{decode_of};
 ghost use Rattle.hc_text.specs.Call.{IsPrinting, IsValueText};
 
-use hc_script::TextFault;
+use cmd_script::TextFault;
 use hex::FromHexError;
 use r2_base::Bytes;
 use std::alloc::Global;

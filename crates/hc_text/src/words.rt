@@ -8,7 +8,7 @@ use crate::meant::Meant;
 use crate::replay_words::replay_meaning;
 use crate::router_words::router_meaning;
 use crate::server_words::server_meaning;
-use hc_script::TextFault;
+use cmd_script::TextFault;
 use std::alloc::Global;
 
 /// What the words of a command line mean.

@@ -5,15 +5,15 @@ use Rattle.r2_base.specs.declared.datagram.Datagram.{Datagram}
 use Rattle.r2_link.specs.declared.lane.Item.{Item}
 use Rattle.r2_link.specs.Told.{IsKept}
 use Rattle.r2_link.proofs.Streams.{Appends-nil}
-use Rattle.hc_status.specs.declared.status.Status.{Status}
-use Rattle.hc_status.specs.declared.status.Status.TheVariants.{ClockFault, LinkFault, Memory}
-use Rattle.hc_loops.specs.declared.pace.Pace.{Pace}
-use Rattle.hc_loops.specs.Outside.{Passes as LoopPasses}
-use Rattle.hc_loops.proofs.Told.{Gains-none, IsKept-refl, Takes-none}
-use Rattle.hc_calling.specs.declared.calling.Calling.{Calling}
-use Rattle.hc_calling.specs.Calls.{Calls, RunsFrom}
-use Rattle.hc_calling.specs.Outside.{Outside, Passes, outside}
-use Rattle.hc_calling.proofs.Passing.{hears-none, passes-then}
+use Rattle.cmd_status.specs.declared.status.Status.{Status}
+use Rattle.cmd_status.specs.declared.status.Status.TheVariants.{ClockFault, LinkFault, Memory}
+use Rattle.cmd_loop.specs.declared.pace.Pace.{Pace}
+use Rattle.cmd_loop.specs.Outside.{Passes as LoopPasses}
+use Rattle.cmd_loop.proofs.Told.{Gains-none, IsKept-refl, Takes-none}
+use Rattle.cmd_client.specs.declared.calling.Calling.{Calling}
+use Rattle.cmd_client.specs.Calls.{Calls, RunsFrom}
+use Rattle.cmd_client.specs.Outside.{Outside, Passes, outside}
+use Rattle.cmd_client.proofs.Passing.{hears-none, passes-then}
 use Rattle.hc_tops.specs.Commands.{BehindBinding}
 
 -- a bind passes nothing

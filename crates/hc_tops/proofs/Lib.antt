@@ -1,3 +1,2 @@
-pub mod PlainTurns
 pub mod Bindings
 pub mod Meanings

@@ -5,12 +5,12 @@ use Rattle.r2_link.proofs.Streams.{Consumes-nil}
 use Rattle.hc_text.specs.declared.meant.Meant.{Meant}
 use Rattle.hc_text.specs.declared.meant.Meant.TheVariants.{Router, Server, Client, Replay}
 use Rattle.hc_text.specs.Words.{Means}
-use Rattle.hc_status.specs.declared.status.Status.TheVariants.{BadWords, Memory}
-use Rattle.hc_loops.proofs.Told.{IsKept-refl, Passes-none}
-use Rattle.hc_routing.proofs.Routes.{routes-nothing}
-use Rattle.hc_calling.specs.Outside.{Outside}
-use Rattle.hc_calling.proofs.Passing.{passes-none}
-use Rattle.hc_replay.proofs.Replays.{nothing-of}
+use Rattle.cmd_status.specs.declared.status.Status.TheVariants.{BadWords, Memory}
+use Rattle.cmd_loop.proofs.Told.{IsKept-refl, Passes-none}
+use Rattle.cmd_router.proofs.Routes.{routes-nothing}
+use Rattle.cmd_client.specs.Outside.{Outside}
+use Rattle.cmd_client.proofs.Passing.{passes-none}
+use Rattle.cmd_replay.proofs.Replays.{nothing-of}
 use Rattle.hc_tops.specs.Commands.{EndsWell, IsWithin, Runs, around, loop_part}
 
 -- the numbers of a meaning are within their limits

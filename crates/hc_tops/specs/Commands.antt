@@ -6,18 +6,18 @@ use Rattle.r2_link.specs.declared.lane.Item.{Item}
 use Rattle.r2_link.specs.Told.{IsKept}
 use Rattle.hc_text.specs.declared.meant.Meant.{Meant}
 use Rattle.hc_text.specs.declared.meant.Meant.TheVariants.{Router, Server, Client, Replay}
-use Rattle.hc_status.specs.declared.status.Status.{Status}
-use Rattle.hc_status.specs.declared.status.Status.TheVariants.{BadWords, LinkFault, Memory}
-use Rattle.hc_loops.specs.Loop.{IsServed, Serves}
-use Rattle.hc_loops.specs.Outside.{Outside as LoopOutside, Passes as LoopPasses}
-use Rattle.hc_routing.specs.Routes.{Routes}
-use Rattle.hc_routing.specs.Twins.{Around}
-use Rattle.hc_calling.specs.Calls.{Calls, DoesNothing, IsCalled}
-use Rattle.hc_calling.specs.Outside.{Outside}
-use Rattle.hc_calling.specs.Script.{IsScript as IsCallScript}
-use Rattle.hc_replay.specs.Grammar.{IsScript}
-use Rattle.hc_replay.specs.Replay.{IsAlone, IsComplete, IsReplay}
-use Rattle.hc_tops.specs.Plain.{PlainSends}
+use Rattle.cmd_status.specs.declared.status.Status.{Status}
+use Rattle.cmd_status.specs.declared.status.Status.TheVariants.{BadWords, LinkFault, Memory}
+use Rattle.cmd_loop.specs.Loop.{IsServed, Serves}
+use Rattle.cmd_loop.specs.Outside.{Outside as LoopOutside, Passes as LoopPasses}
+use Rattle.cmd_router.specs.Routes.{Routes}
+use Rattle.cmd_router.specs.Twins.{Around}
+use Rattle.cmd_client.specs.Calls.{Calls, DoesNothing, IsCalled}
+use Rattle.cmd_client.specs.Outside.{Outside}
+use Rattle.cmd_client.specs.Script.{IsScript as IsCallScript}
+use Rattle.cmd_replay.specs.Grammar.{IsScript}
+use Rattle.cmd_replay.specs.Replay.{IsAlone, IsComplete, IsReplay}
+use Rattle.cmd_server.specs.Plain.{PlainSends}
 
 -- the commands that no thread is needed for
 abbrev pub IsPlain : Meant → Type 0

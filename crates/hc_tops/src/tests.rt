@@ -1,5 +1,5 @@
 ghost use Rattle.std.specs.Prelude.{◌≤◌, IfOk};
-ghost use Rattle.hc_replay.specs.Replay.{IsAlone};
+ghost use Rattle.cmd_replay.specs.Replay.{IsAlone};
 
 use crate::{Setup, Status, replay, run, run_plain};
 use r2_base::{Addr, Addrs, Bytes, Datagram, Failed, NoMemory, Numbers, Room};

@@ -1,7 +1,7 @@
 -- Behind a bind nothing passed yet.
-use Rattle.hc_status.specs.declared.status.Status.{Status}
-use Rattle.hc_calling.specs.Calls.{Calls, DoesNothing}
-use Rattle.hc_calling.specs.Outside.{Outside, outside}
+use Rattle.cmd_status.specs.declared.status.Status.{Status}
+use Rattle.cmd_client.specs.Calls.{Calls, DoesNothing}
+use Rattle.cmd_client.specs.Outside.{Outside, outside}
 use Rattle.hc_tops.proofs.Bindings.{behind-ran, bound-client, calls-from, rose-behind}
 use Rattle.hc_tops.proofs.bound.call_bound.Goals as goal
 

@@ -1,7 +1,7 @@
 -- A bind does nothing that is told.
-use Rattle.hc_loops.proofs.Told.{IsKept-refl}
-use Rattle.hc_routing.specs.Twins.{Around}
-use Rattle.hc_routing.proofs.Routes.{routes-from}
+use Rattle.cmd_loop.proofs.Told.{IsKept-refl}
+use Rattle.cmd_router.specs.Twins.{Around}
+use Rattle.cmd_router.proofs.Routes.{routes-from}
 use Rattle.hc_tops.proofs.bound.route_bound.Goals as goal
 
 pub returns-clause-ran : goal.returns-clause-ran

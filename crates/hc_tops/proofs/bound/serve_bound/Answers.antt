@@ -1,11 +1,11 @@
 -- Behind a bind nothing passed yet.
 use Rattle.std.proofs.Common.{[]}
-use Rattle.hc_status.specs.declared.status.Status.{Status}
-use Rattle.hc_loops.specs.Loop.{Serves}
-use Rattle.hc_loops.specs.Outside.{Outside, Passes}
-use Rattle.hc_tops.specs.Plain.{PlainSends}
+use Rattle.cmd_status.specs.declared.status.Status.{Status}
+use Rattle.cmd_loop.specs.Loop.{Serves}
+use Rattle.cmd_loop.specs.Outside.{Outside, Passes}
+use Rattle.cmd_server.specs.Plain.{PlainSends}
 use Rattle.hc_tops.proofs.Bindings.{behind-ran, bound-loop}
-use Rattle.hc_loops.proofs.Weaker.{serves-from}
+use Rattle.cmd_loop.proofs.Weaker.{serves-from}
 use Rattle.hc_tops.proofs.bound.serve_bound.Goals as goal
 
 pub returns-clause-ran : goal.returns-clause-ran

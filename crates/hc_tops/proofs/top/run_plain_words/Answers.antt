@@ -1,7 +1,7 @@
 -- What the words mean is within the limits of the calls; without memory nothing was done.
 use Rattle.std.proofs.Common.{map}
 use Rattle.std.specs.String.{string_bytes}
-use Rattle.hc_calling.specs.Outside.{outside}
+use Rattle.cmd_client.specs.Outside.{outside}
 use Rattle.hc_tops.proofs.Meanings.{means_within, runs-nothing}
 use Rattle.hc_tops.proofs.top.run_plain_words.Goals as goal
 

@@ -1,0 +1,48 @@
+-- What can stand in front of bytes, and what excludes what.
+use Rattle.std.proofs.Common.{◌≢◌, ◌+◌, ◌<◌, inl, inr, ℕ, List, [], ◌∷◌, ◌++◌, All, length, take, drop, refl, sym, ap, subst, arith, take-append-drop, length-append}
+use Rattle.std.proofs.lemmas.List.{take-take, take_all, length-take-le}
+use Rattle.std.proofs.lemmas.List.Elements.{All-take, All-tail}
+use Rattle.cmd_lines.specs.Texts.{IsText}
+use Rattle.cmd_lines.specs.Reader.{HasLine, HasLongLine, HasKnownLine}
+use Rattle.cmd_lines.specs.Fronts.{IsLineLen}
+
+abbrev NoEnd : List ℕ → Type 0
+NoEnd bytes = All (λ b. b ≢ 10) bytes
+
+-- so many bytes without an end are a line that is too long
+pub long_of : (bytes : List ℕ) (n : ℕ) → All (λ b. b ≢ 10) (take n bytes) → 8192 < n → 8192 < length bytes → HasLongLine bytes
+long_of bytes n none long more = record {
+  bad = take 8193 bytes;
+  rest = drop 8193 bytes;
+  one_line = subst NoEnd (take-take 8193 n bytes (omega arith)) (All-take (λ b. b ≢ 10) 8193 (take n bytes) none);
+  long = length-take-le 8193 bytes (omega arith);
+  split = sym (take-append-drop 8193 bytes);
+}
+
+-- the same of all the bytes
+pub long_of_all : (bytes : List ℕ) → All (λ b. b ≢ 10) bytes → 8192 < length bytes → HasLongLine bytes
+long_of_all bytes none more =
+    long_of bytes (length bytes) (subst NoEnd (sym (take_all (length bytes) bytes (omega arith))) none) more more
+
+-- an end among the bytes is one
+pub has_end : (xs ys : List ℕ) → All (λ b. b ≢ 10) (xs ++ 10 ∷ ys) → ⊥
+has_end [] ys none = none 0 0 (omega arith) refl
+has_end (x ∷ xs) ys none = has_end xs ys (All-tail (λ b. b ≢ 10) x (xs ++ 10 ∷ ys) none)
+
+-- the beginning of a line has no line in front
+pub line_is_no_part : (bytes : List ℕ) → HasLine bytes → IsText bytes → ⊥
+line_is_no_part bytes h part = has_end h.line h.rest (subst NoEnd h.split part.one_line)
+
+pub long_is_no_part : (bytes : List ℕ) → HasLongLine bytes → IsText bytes → ⊥
+long_is_no_part bytes h part =
+    absurd (omega (arith, ap length h.split, length-append h.bad h.rest, h.long, part.short))
+
+pub known_is_no_part : (bytes : List ℕ) → HasKnownLine bytes → IsText bytes → ⊥
+known_is_no_part bytes h part = elim h [ inl line ↦ line_is_no_part bytes line part | inr long ↦ long_is_no_part bytes long part ]
+
+-- a line of a known length is one that stands in front
+pub line_of_len : (bytes : List ℕ) (len : ℕ) → IsLineLen bytes len → HasLine bytes
+line_of_len bytes len h = record { line = take len bytes; rest = drop (len + 1) bytes; text = h.text; split = h.split }
+
+pub line_len_is_no_part : (bytes : List ℕ) (len : ℕ) → IsLineLen bytes len → IsText bytes → ⊥
+line_len_is_no_part bytes len h part = line_is_no_part bytes (line_of_len bytes len h) part

@@ -1,0 +1,51 @@
+ghost use Rattle.std.specs.Prelude.{◌≢◌, ◌≤◌, ◌<◌, ◌+◌, ◌≡◌, ◌∷◌, ◌++◌, All, IfSome, take, drop, length, None};
+ghost use Rattle.cmd_lines.specs.Fronts.{IsFront};
+
+/// The end of a line.
+const LINE_END: u8 = 10;
+
+/// How many bytes a line may have before its end.
+const LINE_LIMIT: usize = 8_192;
+
+/// What stands in front of bytes that wait.
+#[derive(Clone, Copy, Debug, PartialEq, Eq)]
+pub(crate) enum Front {
+    /// A line of this length, and its end.
+    Line(usize),
+    /// A line with more bytes than it may have.
+    TooLong,
+    /// What may be the beginning of a line, or the last line.
+    Unfinished,
+}
+
+/// How many bytes stand before the first end of a line.
+fn place_of_end(bytes: &[u8]) -> Option<usize>
+    ensures found { IfSome result (λ n. bytes.now ≡ take n bytes.now ++ 10 ∷ drop (n + 1) bytes.now) }
+    ensures first { IfSome result (λ n. All (λ b. b ≢ 10) (take n bytes.now)) }
+    ensures within { IfSome result (λ n. n < length bytes.now) }
+    ensures none { result ≡ None → All (λ b. b ≢ 10) bytes.now }
+{
+    bytes.iter().position(|b| *b == LINE_END)
+}
+
+/// What stands in front of the bytes.
+pub(crate) fn front_of(bytes: &[u8]) -> Front
+    ensures { IsFront bytes.now result }
+{
+    match place_of_end(bytes) {
+        Some(len) => {
+            if len > LINE_LIMIT {
+                Front::TooLong
+            } else {
+                Front::Line(len)
+            }
+        }
+        None => {
+            if bytes.len() > LINE_LIMIT {
+                Front::TooLong
+            } else {
+                Front::Unfinished
+            }
+        }
+    }
+}

@@ -1,0 +1,100 @@
+-- The text of one line, run by a member.
+use Rattle.std.proofs.Common.{◌≡◌, ◌≢◌, ℕ, true, List, [], ◌∷◌, length, Option, None, Some, refl, sym, ap, subst, ◌∙◌, arith, append-nil, inr}
+use Rattle.std.specs.Prelude.{All, Bool, false, ◌==◌}
+use Rattle.std.proofs.lemmas.Bool.{eqb-true}
+use Rattle.std.proofs.lemmas.List.{nil_from_length}
+use Rattle.std.proofs.lemmas.List.Elements.{All-push}
+use Rattle.std.specs.Io.KnownBytes.{Appends}
+use Rattle.r2_link.specs.Streams.{AppendsFront}
+use Rattle.r2_link.proofs.Streams.{Appends-nil}
+use Rattle.cmd_script.specs.declared.line.Line.{Line}
+use Rattle.cmd_replay.specs.declared.setup.Setup.{Setup}
+use Rattle.cmd_replay.specs.declared.member.Member.{Member}
+use Rattle.cmd_status.specs.declared.status.Status.{Status}
+use Rattle.cmd_status.specs.declared.status.Status.TheVariants.{Done, BadWords, BadScript, Memory, SourceFault, SinkFault, LinkFault, ClockFault, TimedOut, IdsUsed, TurnsSpent}
+use Rattle.cmd_script.specs.Line.{IsLine}
+use Rattle.cmd_status.specs.Stops.{StopsBySink}
+use Rattle.cmd_replay.specs.Script.{IsText, Say, AreLines, after, line_turn, turn_at, line_text, turns_text, event_of}
+use Rattle.cmd_replay.specs.Turn.{Reacted, turned}
+use Rattle.r2_base.specs.declared.event.Event.{Event}
+use Rattle.cmd_replay.specs.Printed.{turn_text}
+use Rattle.cmd_replay.specs.Playback.{Ran, StopsText}
+
+-- one text is a list of texts
+one_is_text : (text : List ℕ) → IsText text → All IsText (text ∷ [])
+one_is_text text is = All-push IsText [] text (λ k d h. absurd (omega (arith, h))) is
+
+-- an empty text is no line
+pub ran-nothing : (s : Setup) (m : Member) (text : List ℕ) (old : Option (List ℕ)) → IsText text → text ≡ [] → Ran s m m (text ∷ []) old old
+unfolding after turns_text
+ran-nothing s m text old is none =
+    let known : AreLines (text ∷ []) [] =
+    record { each = one_is_text text is; said = subst (λ x. Say (x ∷ []) []) (sym none) refl } in
+    record { lines = []; known = known; at = refl; gave = Appends-nil old }
+
+said_one : (text : List ℕ) (line : Line) → text ≢ [] → IsLine text line → Say (text ∷ []) (line ∷ [])
+said_one [] line some is = absurd (some refl)
+said_one (b ∷ text) line some is = (is, refl)
+
+-- a text that is a line
+pub one_line : (text : List ℕ) (line : Line) → IsText text → text ≢ [] → IsLine text line → AreLines (text ∷ []) (line ∷ [])
+one_line text line short some is = record { each = one_is_text text short; said = said_one text line some is }
+
+-- what a line makes of a member, by the line's event
+pub line_turn-at : (s : Setup) (m : Member) (line : Line) (o : Option Event) → event_of s line ≡ o → line_turn s m line ≡ turn_at s m o
+unfolding line_turn
+line_turn-at s m line o is = ap (turn_at s m) is
+
+-- a line with an event prints its turn
+pub line_text-at : (s : Setup) (m : Member) (line : Line) (event : Event) → event_of s line ≡ Some event
+    → turn_text (turned s m event).stored (turned s m event).sends ≡ line_text s m line
+unfolding line_text
+line_text-at s m line event is = sym (ap (λ (x : Reacted). turn_text x.stored x.sends) (line_turn-at s m line (Some event) is))
+
+-- a restart prints nothing
+pub line_text-none : (s : Setup) (m : Member) (line : Line) → event_of s line ≡ None → line_text s m line ≡ []
+unfolding line_text turn_text
+line_text-none s m line is = ap (λ (x : Reacted). turn_text x.stored x.sends) (line_turn-at s m line None is)
+
+turns_text-one : (s : Setup) (m : Member) (line : Line) → line_text s m line ≡ turns_text s m (line ∷ [])
+unfolding turns_text
+turns_text-one s m line = sym (append-nil (line_text s m line))
+
+after-one : (s : Setup) (m : Member) (line : Line) → (line_turn s m line).member ≡ after s m (line ∷ [])
+unfolding after
+after-one s m line = refl
+
+module _ (s : Setup) (m : Member) (text : List ℕ) (line : Line) where
+  -- the member ran the line
+  pub ran-line : (n : Member) (old new : Option (List ℕ)) → AreLines (text ∷ []) (line ∷ [])
+      → n ≡ (line_turn s m line).member → Appends old new (line_text s m line) → Ran s m n (text ∷ []) old new
+  ran-line n old new known at gave =
+      record {
+        lines = line ∷ [];
+        known = known;
+        at = at ∙ after-one s m line;
+        gave = subst (Appends old new) (turns_text-one s m line) gave;
+      }
+
+  -- printing what a line prints was cut short
+  pub stops-line : (number : ℕ) (old new : Option (List ℕ)) (faults faults' : ℕ) (status : Status)
+      → StopsBySink faults faults' status → AreLines (text ∷ []) (line ∷ [])
+      → AppendsFront old new (line_text s m line) → StopsText s m text number old new status
+  stops-line number old new f f' SinkFault why known front = inr (line ∷ [], known, subst (AppendsFront old new) (turns_text-one s m line) front)
+  stops-line number old new f f' Memory why known front = inr (line ∷ [], known, subst (AppendsFront old new) (turns_text-one s m line) front)
+  stops-line number old new f f' Done why known front = absurd why
+  stops-line number old new f f' BadWords why known front = absurd why
+  stops-line number old new f f' SourceFault why known front = absurd why
+  stops-line number old new f f' LinkFault why known front = absurd why
+  stops-line number old new f f' ClockFault why known front = absurd why
+  stops-line number old new f f' TimedOut why known front = absurd why
+  stops-line number old new f f' IdsUsed why known front = absurd why
+  stops-line number old new f f' TurnsSpent why known front = absurd why
+  stops-line number old new f f' (BadScript n) why known front = absurd why
+
+-- what a test for an empty text tells
+pub empty_text : (text : List ℕ) (b : Bool) → b ≡ (length text == 0) → b ≡ true → text ≡ []
+empty_text text b is e = nil_from_length text (eqb-true (length text) 0 (sym is ∙ e))
+
+pub some_text : (text : List ℕ) (b : Bool) → b ≡ (length text == 0) → b ≡ false → text ≢ []
+some_text text b is e none = let z : (length text == 0) ≡ true = ap (λ (x : List ℕ). length x == 0) none in cc

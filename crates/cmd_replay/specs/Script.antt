@@ -1,0 +1,83 @@
+-- A script as a list of lines, and what its replay prints.
+use Rattle.std.specs.Prelude.{◌≡◌, ◌≢◌, ℕ, ◌-◌, ◌≤◌, ◌==◌, if◌then◌else◌, suc, zero, List, [], ◌∷◌, ◌++◌, length, All, Option, Some, None}
+use Rattle.std.specs.List.{flat_map}
+use Rattle.r2_base.specs.declared.event.Event.{Event}
+use Rattle.r2_base.specs.declared.event.Event.TheVariants.{Datagram as DatagramEvent, Tick as TickEvent, Quiet as QuietEvent}
+use Rattle.cmd_script.specs.declared.line.Line.{Line}
+use Rattle.cmd_script.specs.declared.line.Line.TheVariants.{Tick, Quiet, In, Restart}
+use Rattle.cmd_replay.specs.declared.setup.Setup.{Setup}
+use Rattle.cmd_replay.specs.declared.member.Member.{Member}
+use Rattle.cmd_replay.specs.Member.{begin, restarted, own_address}
+use Rattle.cmd_replay.specs.Turn.{finished, Reacted, turned}
+use Rattle.cmd_replay.specs.Printed.{turn_text}
+use Rattle.cmd_script.specs.Line.{IsLine}
+
+-- the text of a line, without its end: 8,192 bytes at most
+pub record IsText (text : List ℕ) : Type 0 where
+  pub one_line : All (λ b. b ≢ 10) text
+  pub short : length text ≤ 8192
+
+-- texts as they stand in a script, each with its end
+unfoldable pub fed : List (List ℕ) → List ℕ
+fed texts = flat_map (λ text. text ++ 10 ∷ []) texts
+
+-- the texts say these lines, in order; an empty text says nothing
+abbrev pub Say : List (List ℕ) → List Line → Type 0
+Say [] lines = lines ≡ []
+Say ([] ∷ texts) lines = Say texts lines
+Say ((b ∷ text) ∷ texts) [] = ⊥
+Say ((b ∷ text) ∷ texts) (line ∷ lines) = IsLine (b ∷ text) line × Say texts lines
+
+-- the event of a line; a restart has none; a datagram comes to the replica's own address
+abbrev pub event_of : Setup → Line → Option Event
+event_of s Tick = Some TickEvent
+event_of s Quiet = Some QuietEvent
+event_of s (In from bytes) = Some (DatagramEvent (record { from = from; to = own_address s; bytes = bytes }))
+event_of s Restart = None
+
+-- what an event makes of a member is a turn; a restart makes it anew, and stores and sends nothing
+abbrev pub turn_at : Setup → Member → Option Event → Reacted
+turn_at s m (Some event) = turned s m event
+turn_at s m None = record { member = restarted m; stored = None; sends = [] }
+
+-- what a line makes of a member
+unfoldable pub line_turn : Setup → Member → Line → Reacted
+line_turn s m line = turn_at s m (event_of s line)
+
+-- the member behind some lines
+unfoldable pub after : Setup → Member → List Line → Member
+after s m [] = m
+after s m (line ∷ lines) = after s (line_turn s m line).member lines
+
+-- what a line prints
+unfoldable pub line_text : Setup → Member → Line → List ℕ
+line_text s m line = turn_text (line_turn s m line).stored (line_turn s m line).sends
+
+-- what some lines print
+unfoldable pub turns_text : Setup → Member → List Line → List ℕ
+turns_text s m [] = []
+turns_text s m (line ∷ lines) = line_text s m line ++ turns_text s (line_turn s m line).member lines
+
+-- what is printed until all that is committed is applied, in so many batches at most
+unfoldable pub closing_text : Setup → ℕ → Member → List ℕ
+closing_text s zero m = []
+closing_text s (suc more) m =
+    if m.applied == m.commit then []
+    else turn_text None (finished s m).sends ++ closing_text s more (finished s m).member
+
+-- what a member prints behind the last line
+abbrev pub last_text : Setup → Member → List ℕ
+last_text s m = closing_text s (m.commit - m.applied) m
+
+-- what a whole script prints
+unfoldable pub script_text : Setup → List Line → List ℕ
+script_text s lines = turns_text s begin lines ++ last_text s (after s begin lines)
+
+-- the texts are lines, and say these
+pub record AreLines (texts : List (List ℕ)) (lines : List Line) : Type 0 where
+  pub each : All IsText texts
+  pub said : Say texts lines
+
+-- the text is no line of a script
+abbrev pub IsOutside : List ℕ → Type 0
+IsOutside text = (line : Line) → IsText text → IsLine text line → ⊥

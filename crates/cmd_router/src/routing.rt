@@ -1,0 +1,92 @@
+ghost use Rattle.std.specs.Prelude.{◌≡◌, ◌⊎◌, ◌≤◌, length};
+ghost use Rattle.std.specs.Io.KnownBytes.{Appends, Keeps};
+ghost use Rattle.r2_base.specs.Limits.{most_turns};
+ghost use Rattle.r2_jbsq.specs.Limits.{greatest_n, most_servers};
+ghost use Rattle.r2_link.specs.Faults.{Rose};
+ghost use Rattle.r2_link.specs.Streams.{AppendsFront};
+ghost use Rattle.r2_link.specs.Told.{IsKept};
+ghost use Rattle.cmd_status.specs.declared.status.Status.TheVariants.{SinkFault, LinkFault as LinkFaultSpec, ClockFault};
+ghost use Rattle.cmd_loop.specs.Loop.{IsServed};
+ghost use Rattle.cmd_router.specs.Routes.{IsWholeRun, Routes};
+ghost use Rattle.cmd_router.specs.Totals.{totals_line};
+
+use crate::on_twin::serve_on_twin;
+use crate::router_totals::{RouterTotals, write_totals};
+use crate::routing_party::RoutingParty;
+use cmd_loop::Pace;
+use cmd_status::Status;
+use r2_base::{Addr, Addrs};
+use r2_link::{Clock, LinkFault, Sink, Twin};
+use std::alloc::Global;
+
+/// Runs a new router at `me` before 1 to 64 servers, of which each may hold `n` requests, 1 to 16, on one twin of a link, until the
+/// twin ends, something fails, or so many receives were made. There is one worker.
+///
+/// Where the twin ended or all receives were made, one line is printed: `turns A accepted B forwarded C answered D`, with the number
+/// of datagrams, quiets and ticks, and of the requests that were accepted, forwarded and answered.
+pub fn serve_router<K: Sink, L: Twin, C: Clock>(
+    alloc: Global,
+    me: Addr,
+    servers: Addrs,
+    n: u8,
+    workers: u8,
+    sink: &mut K,
+    link: &mut L,
+    clock: &mut C,
+    pace: Pace,
+) -> Status
+    requires some_server { 1 ≤ length servers }
+    requires few_servers { length servers ≤ most_servers }
+    requires some_request { 1 ≤ n }
+    requires few_requests { n ≤ greatest_n }
+    requires one_worker { workers ≡ 1 }
+    requires tick { 1 ≤ pace.tick_ms }
+    requires turns { pace.turns ≤ most_turns }
+
+    // What was received and sent on the twin, and what was printed.
+    ensures ran { Routes (record { me = me; servers = servers; n = n }) pace
+        (record { lanes = L.lanes link.old; sent = L.sent link.old; clock = C.left clock.old })
+        (record { lanes = L.lanes link.new; sent = L.sent link.new; clock = C.left clock.new }) (K.written sink.old) (K.written sink.new) result }
+
+    // Where neither the link nor the clock nor the sink failed, the twin ended, all receives were made, or memory ran out.
+    ensures complete { (Rose (L.faults link.old) (L.faults link.new) → ⊥) → (Rose (C.faults clock.old) (C.faults clock.new) → ⊥)
+        → (Rose (K.faults sink.old) (K.faults sink.new) → ⊥) → IsServed result }
+
+    ensures left { IsKept (L.left link.old) (L.left link.new) }
+    ensures sink_fault { result ≡ SinkFault → Rose (K.faults sink.old) (K.faults sink.new) }
+    ensures link_fault { result ≡ LinkFaultSpec → Rose (L.faults link.old) (L.faults link.new) }
+    ensures clock_fault { result ≡ ClockFault → Rose (C.faults clock.old) (C.faults clock.new) }
+    ensures sink_steady { K.faults sink.old ≤ K.faults sink.new }
+    ensures link_steady { L.faults link.old ≤ L.faults link.new }
+    ensures clock_steady { C.faults clock.old ≤ C.faults clock.new }
+{
+    let Ok(party) = RoutingParty::new(alloc, me, servers, n) else {
+        return Status::Memory;
+    };
+    let mut party = party;
+    match serve_on_twin(alloc, &mut party, link, clock, pace) {
+        Ok(ended) => tell_end(sink, party.totals(), ended),
+        Err(LinkFault::Failed) => Status::LinkFault,
+        Err(LinkFault::Memory) => Status::Memory,
+    }
+}
+
+/// How a router's run ends whose loop ended so: where that was by the twin's end or the last turn, the totals are printed.
+fn tell_end<K: Sink>(sink: &mut K, totals: RouterTotals, ended: Status) -> Status
+    ensures untold { (IsWholeRun ended → ⊥) → (result ≡ ended) × Keeps (K.written sink.old) (K.written sink.new) }
+    ensures told { IsWholeRun ended
+        → ((result ≡ ended) × Appends (K.written sink.old) (K.written sink.new) (totals_line totals.turns totals.accepted totals.forwarded totals.answered))
+        ⊎ ((result ≡ SinkFault) × AppendsFront (K.written sink.old) (K.written sink.new) (totals_line totals.turns totals.accepted totals.forwarded totals.answered)) }
+    ensures cause { result ≡ SinkFault → (ended ≡ SinkFault) ⊎ Rose (K.faults sink.old) (K.faults sink.new) }
+    ensures steady { K.faults sink.old ≤ K.faults sink.new }
+{
+    match ended {
+        Status::Done => {}
+        Status::TurnsSpent => {}
+        _ => return ended,
+    }
+    if let Err(_) = write_totals(sink, totals) {
+        return Status::SinkFault;
+    }
+    ended
+}
