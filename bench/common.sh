@@ -1,6 +1,6 @@
 # shellcheck shell=bash disable=SC2034,SC2154  # what sets and reads the names are the scripts that source it
-# What the measurements share: the built program, ports that are free, processes that are ended with the script, and numbers.
-# It is sourced, by a script that has set -euo pipefail.
+# What the measurements share: the built program, free ports, processes that are ended with the script, and numbers.
+# It is sourced by a script that has set -euo pipefail.
 
 here=$(cd "$(dirname "${BASH_SOURCE[0]}")" && pwd)
 program=$here/../crates/r2p2_suite/out/r2p2_suite
@@ -14,7 +14,7 @@ number_in() { # of $1, whether it is a decimal number from $2 to $3
     [[ $1 =~ ^[1-9][0-9]{0,6}$ ]] && [ "$1" -ge "$2" ] && [ "$1" -le "$3" ]
 }
 
-servers=() # the processes that this script started and that may still run
+servers=() # processes that this script started and that may still run
 
 end_servers() {
     local each
@@ -30,7 +30,7 @@ clean() {
     rm -rf "$work"
 }
 
-# Makes the folder $work with so many free ports in `ports`, and with the programs named behind from their C texts.
+# Makes the folder $work, puts $1 free ports into `ports`, and compiles into the folder the C programs that the other words name.
 prepare() {
     local name
     [ -x "$program" ] || refuse "the program isn't built: there is no $program; rt ci builds it"
@@ -56,7 +56,7 @@ rate() { # of $1 events in $2 microseconds, a second
     awk -v events="$1" -v took="$2" 'BEGIN { printf "%d", events * 1000000 / took }'
 }
 
-middle() { # of the numbers given
+middle() { # the median of the numbers given
     printf '%s\n' "$@" | sort -n | awk '{ each[NR] = $1 } END { print each[int((NR + 1) / 2)] }'
 }
 

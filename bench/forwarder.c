@@ -1,5 +1,5 @@
 /* forwarder PORT SERVER_PORT...: sends each request on to one of the servers, drawn at random, and passes over all else. It counts
- * nothing and holds nothing back: what a router without a policy can do at most. It runs until a signal ends it. */
+ * nothing and holds nothing back, so it does at most what a router without a policy could. It runs until a signal ends it. */
 #include "jbsq.h"
 
 enum { SERVERS = 64 };

@@ -7,19 +7,19 @@
 #include <stdint.h>
 #include <time.h>
 
-/* The type and the policy, which stand in the third byte. */
+/* The type and the policy, together in the third byte. */
 enum { REQUEST = 0x01, REPLY = 0x11, FEEDBACK = 0x41 };
 
-/* A header, one with the client's address, the body of the bench's requests, the payload of its replies. */
+/* Sizes: a header, a header with the client's address, the body of a request here, the payload of a reply here. */
 enum { HEADER = 8, LONG_HEADER = 16, BODY = 7, PAYLOAD = 25 };
 
-/* A header without the client's address. It has a place behind for it. */
+/* Writes a header without the client's address. */
 static inline void put_header(unsigned char *out, int kind, unsigned id) {
     const unsigned char header[HEADER] = {0x52, HEADER, (unsigned char)kind, 0xC0, (unsigned char)(id >> 8), (unsigned char)id, 0, 1};
     memcpy(out, header, HEADER);
 }
 
-/* Puts the client's address behind the eight bytes of a header. */
+/* Adds the client's address after the eight bytes of a header. */
 static inline void put_client(unsigned char *out, const struct sockaddr_in *client) {
     out[1] = LONG_HEADER;
     memcpy(out + 8, &client->sin_addr.s_addr, 4);

@@ -1,7 +1,7 @@
-/* jbsq_servers ROUTER_PORT SHORT LONG PORT...: servers of requests under JBSQ, a thread each. A server has one request at a time,
- * sends the reply to its client, and then feedback to the router. Nine requests of ten take it SHORT microseconds and the tenth
- * LONG, told by the number in the request, so that each run has the same ones; one that comes again is answered at once. A server
- * sleeps for that time, so that there can be more of them than processors. They run until a signal ends them. */
+/* jbsq_servers ROUTER_PORT SHORT LONG PORT...: servers of requests under JBSQ, a thread each. A server executes one request at a time,
+ * sends the reply to its client, and then feedback to the router. Nine requests in ten take it SHORT microseconds and the tenth takes
+ * LONG; the number in the request decides which, so that each run has the same ones. A request that comes again is answered at once.
+ * A server sleeps for that time, so that there can be more servers than processors. They run until a signal ends them. */
 #include "jbsq.h"
 #include <errno.h>
 #include <pthread.h>
@@ -20,7 +20,7 @@ static void work(int64_t ns) {
     }
 }
 
-/* Whether a request is known to be answered already; it is from now on. */
+/* Whether a request was answered before. It counts as answered from now on. */
 static bool is_answered(unsigned char kept[KEPT][LONG_HEADER], const unsigned char *header) {
     uint64_t client = 0;
     memcpy(&client, header + 8, 6);

@@ -1,9 +1,9 @@
-/* many_clients PORT CLIENTS COUNT RATE: so many clients, each with a socket of its own, make COUNT requests in all to a router. With
- * RATE 0 each client sends its next request as soon as the one before is answered. Else the requests come from outside, RATE of them
- * a second and at random, each from the next client in turn, whether others are answered or not. It prints three numbers of
- * microseconds: from the first request to the last reply, and the middle and the 99th percentile of the time to a reply, counted
- * from the moment at which a request was due. A request without a reply is sent again each half second, since a datagram may be
- * lost where a process has to wait for a processor. It ends with status 1 where no reply comes for ten seconds. */
+/* many_clients PORT CLIENTS COUNT RATE: CLIENTS clients, each with a socket of its own, make COUNT requests in all to a router. With
+ * RATE 0 each client sends its next request as soon as the one before is answered. Otherwise RATE requests a second are due, at random
+ * times, each from the next client in turn, whether earlier ones are answered or not. It prints three numbers of microseconds: from the
+ * first request to the last reply, and the median and the 99th percentile of the time to a reply, counted from the moment at which a
+ * request was due. A request without a reply is sent again each half second, since a datagram may be lost where a process has to
+ * wait for a processor. It ends with status 1 where no reply comes for ten seconds. */
 #define _GNU_SOURCE
 #include "jbsq.h"
 #include <errno.h>

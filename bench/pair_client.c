@@ -1,5 +1,5 @@
 /* pair_client OWN_PORT PORT COUNT SIZE: sends COUNT datagrams of SIZE bytes one after the other, each as soon as the one before is
- * answered. It ends with status 0 behind the last answer, and with status 1 where one doesn't come for two seconds. */
+ * answered. It ends with status 0 after the last answer, and with status 1 where one doesn't come for two seconds. */
 #include "loopback.h"
 
 int main(int words, char **word) {

@@ -1,5 +1,5 @@
 /* pair_server PORT COUNT SIZE: answers COUNT datagrams, each with one of SIZE bytes that begins with the first four bytes of what
- * came. It ends with status 0 behind the last of them, and with status 1 where nothing comes for ten seconds. */
+ * came. It ends with status 0 after the last of them, and with status 1 where nothing comes for ten seconds. */
 #include "loopback.h"
 
 int main(int words, char **word) {

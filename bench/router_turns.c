@@ -1,9 +1,9 @@
-/* router_turns ROUTER_PORT SERVER_PORT ROUTER_PID WAITING STEPS: what a router's turns cost while so many requests wait in it. The
- * router's only server stands at SERVER_PORT, which is this program's, and may hold one request. So the first request goes there and
- * the others wait. Then come the steps: feedback to the request that the server holds, which brings the one that waits longest, and
- * one more new request, so that as many wait as before. A step is two turns of the router. At the end each request that waits is
- * taken out, so that it is known that so many did; they come in the order in which they were made.
- * It prints two numbers of nanoseconds for a turn: the time that goes by, and the time that the router is on a processor. */
+/* router_turns ROUTER_PORT SERVER_PORT ROUTER_PID WAITING STEPS: what a router's turns cost while WAITING requests wait in it. The
+ * router's only server is this program, at SERVER_PORT, and may hold one request. So the first request goes there and the others
+ * wait. Then come the steps: feedback for the request that the server holds, upon which the one that waits longest comes, and a new
+ * request, so that as many wait as before. A step is two turns of the router. At the end all requests that wait are taken out, which
+ * shows that there were as many as there should be, and that they come in the order in which they were made.
+ * It prints two numbers of nanoseconds for a turn: the elapsed time, and the time that the router spent on a processor. */
 #include "jbsq.h"
 
 enum { CLIENTS = 3, IDS = 65536, MOST_WAITING = 65536, AT_ONCE = 100 };
@@ -11,7 +11,7 @@ enum { CLIENTS = 3, IDS = 65536, MOST_WAITING = 65536, AT_ONCE = 100 };
 static int clients[CLIENTS], server;
 static struct sockaddr_in router, addresses[CLIENTS];
 static long made;
-/* The request that the server holds. */
+/* The number of the request that the server holds. */
 static long held;
 
 /* Request k is the client's k / IDS, and its number k modulo IDS. */
@@ -30,7 +30,7 @@ static void give_feedback(void) {
     send_to(server, bytes, sizeof bytes, &router);
 }
 
-/* Waits until the router sends the request behind the one that was held; it sends the held one again at a tick. */
+/* Waits until the router sends the request after the one that was held. At a tick it sends the held one again. */
 static void take_next(void) {
     long came_number;
     do {
@@ -56,7 +56,7 @@ static void step(void) {
     take_next();
 }
 
-/* Lets so many requests wait. A step in between shows that the router took all that came before. */
+/* Makes `waiting` requests wait. A step in between shows that the router has taken all that came before it. */
 static void fill(long waiting) {
     held = -1;
     ask();

@@ -77,7 +77,7 @@ def escaped(data):
 
 
 def exact_bytes(text):
-    """The bytes of pieces in quotes, of which "..."*N stands for so many."""
+    """The bytes of pieces in quotes, of which "..."*N means N times the piece."""
     found, at = b"", 0
     while text[at:].strip() and not text[at:].lstrip().startswith("#"):
         piece = PIECE.match(text, at)
@@ -89,11 +89,11 @@ def exact_bytes(text):
 
 
 def plain_bytes(text):
-    """The bytes of a line that is told without quotes: the comment is left out, and of a line that ends in hexadecimal digits the blanks
-    between them. Such a line may count, and then stands for several."""
+    """The bytes of a line that is written without quotes: without the comment, and where it ends in hexadecimal digits without the blanks
+    between them. Such a line may count, and then means several lines."""
     text = COMMENT.sub("", " " + (text or ""), count=1)[1:].rstrip()
     if text.startswith(" "):
-        raise BadCase("a line that begins with a blank stands in quotes")
+        raise BadCase("a line that begins with a blank has to be in quotes")
     if not HEXADECIMAL.fullmatch(text):
         return (text + "\n").encode()
     return "".join(joined(each) + "\n" for each in expanded(IN_LINE.sub(lambda found: " ".join(expanded(found[1])), text))).encode()
@@ -106,7 +106,7 @@ def joined(text):
 
 
 def expanded(text):
-    """The texts that one with counters {FIRST..LAST} stands for: one for each number; several counters count together."""
+    """The texts that a text with counters {FIRST..LAST} means: one for each number; several counters count together."""
     lengths = {int(last, 16) - int(first, 16) for first, last in COUNTER.findall(text)}
     if not lengths:
         return [text]
@@ -116,7 +116,7 @@ def expanded(text):
 
 
 def words_of(text):
-    """The words of a command line. A word that is empty, or has blanks, quotes or # in it, stands in quotes."""
+    """The words of a command line. A word that is empty, or has blanks, quotes or # in it, is in quotes."""
     words, at = [], 0
     while text[at:].strip() and not text[at:].lstrip().startswith("#"):
         word = WORD.match(text, at)
@@ -288,7 +288,7 @@ def line_at(run, mark, at):
 
 LONG = 120  # characters from which on a line is long
 ENTRY_FIELDS = range(7, 13)  # that an entry of a record may have, from one without a body on
-TOGETHER = 4  # entries that count on, from which on they are told as one
+TOGETHER = 4  # so many entries that count on, or more, are written as one
 
 
 def fields_of(line):
@@ -308,7 +308,7 @@ def is_plain(line):
 
 
 def rows_of(data):
-    """The fields of lines, or nothing where one can't be told without quotes."""
+    """The fields of lines, or nothing where one can't be written without quotes."""
     lines = data.split(b"\n")
     if lines.pop() or not all(is_plain(line + b"\n") for line in lines):
         return None
@@ -346,7 +346,7 @@ def exact_text(data):
 
 
 def plain_text(data):
-    """The text of a line, or of lines that count on, without quotes; nothing where it can't be told so."""
+    """The text of a line, or of lines that count on, without quotes; nothing where it can't be written so."""
     rows = rows_of(data)
     if not rows or len(repetitions.going_together(rows)) < len(rows):
         return None
@@ -360,7 +360,7 @@ def plain_text(data):
 
 
 def text_line(mark, data, comment=""):
-    """The line of a case's file for bytes that are read or written: in quotes where it can't be told without, or would be long."""
+    """The line of a case's file for bytes that are read or written: in quotes where it can't be written without, or would be long."""
     plain, line = plain_text(data), f"{mark}= {exact_text(data)}"
     if plain is not None and (len(plain) <= LONG or HEXADECIMAL.fullmatch(plain)):
         line = f"{mark} {plain}".rstrip()

@@ -41,7 +41,7 @@ GREATEST_MEMBER = 6
 MOST_ENTRIES = 64  # of a record or an Order
 MOST_BODY = 61440
 SHOWN = 24  # bytes of a value that are shown whole
-NOTED = 6  # parts of a record that a note tells all
+NOTED = 6  # up to so many parts of a record a note names each
 
 
 class Refused(ValueError):
@@ -401,7 +401,7 @@ GROUP = re.compile(r"([0-9A-Fa-f]+)(?:\*([0-9]+))?")
 
 
 def digits_of(text):
-    """The hexadecimal digits of groups, of which GROUP*N stands for so many; nothing where the text is no such groups."""
+    """The hexadecimal digits of groups, of which GROUP*N means N times the group; nothing where the text isn't of this form."""
     groups = [GROUP.fullmatch(each) for each in text.split()]
     return "".join(each[1] * int(each[2] or 1) for each in groups) if all(groups) else None
 

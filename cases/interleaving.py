@@ -9,7 +9,7 @@ import running
 NO_LINE = b"no line of a script\n"
 NOTED = 60  # records and datagrams of a case up to which each has a note
 NOTE = 160  # characters that a note may have
-MERGED = 6  # lines that are the same or count on, from which on they are told as one
+MERGED = 6  # so many lines that are the same or count on, or more, are written as one
 
 
 def lines_in(text):

@@ -26,7 +26,7 @@ def runs_of(case):
 
 
 def names_in(case):
-    """The names in braces that stand for addresses in words of the case: {client}, {server}, and those of its programs and peers."""
+    """The names in braces that mean addresses in words of the case: {client}, {server}, and those of its programs and peers."""
     runs = runs_of(case)
     known = {b"{%s}" % each.encode() for each in ["server", "client"] + [each.name for each in runs + case.peers]}
     return {name for run in runs for word in run.words for name in re.findall(rb"\{\w+\}", word)} & known
@@ -55,7 +55,7 @@ def is_bound(port):
 
 
 def has_loopback():
-    """Whether a datagram comes from one socket of this machine to another, and the system tells which ports are bound."""
+    """Whether a datagram comes from one socket of this machine to another, and the system lists which ports are bound."""
     try:
         with socket.socket(socket.AF_INET, socket.SOCK_DGRAM) as one, socket.socket(socket.AF_INET, socket.SOCK_DGRAM) as other:
             one.bind(("127.0.0.1", 0))
@@ -110,7 +110,7 @@ class Running:
 
 
 def port_of(name, addresses):
-    """The port of the address that a name in braces stands for."""
+    """The port of the address that a name in braces means."""
     return int(addresses[b"{%s}" % name.encode()].rpartition(b":")[2])
 
 
