@@ -16,7 +16,7 @@ octet_split end n text rest other fits same = record {
   first = decimal_without end n (omega arith) other;
 }
 
--- the text behind each dot
+-- the text after each dot
 abbrev pub from_d : Addr → List ℕ
 from_d a = decimal (byte_at 0 a.ip) ++ 58 ∷ decimal a.port
 

@@ -68,7 +68,7 @@ wide64 = record {
   below = λ bytes small. omega (arith, small 0, small 1, small 2, small 3, small 4, small 5, small 6, small 7);
 }
 
--- a number's bytes, whatever stands after them, give it back
+-- a number's bytes, whatever follows them, give it back
 pub wide-again : (size limit : ℕ) (text : ℕ → List ℕ) → IsWide size limit text → (n : ℕ) (rest : List ℕ) → n < limit → big_number size (text n ++ rest) ≡ n
 wide-again size limit text wide n rest fits =
     big_from-append 0 size (text n) rest (omega (arith, wide.len n)) ∙ wide.again n fits

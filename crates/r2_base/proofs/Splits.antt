@@ -26,12 +26,12 @@ split-found byte i text before inside here =
           rw (get_or-take i text k d below, get_or_default_zero text k d inside_text) (before k below);
     }
 
--- the byte that ends the front of a split text
+-- the byte at which a text is split comes right after its prefix
 at_seam : (byte : ℕ) (text front rest : List ℕ) → IsSplit byte text front rest → (get_or text (length front) 0 ≡ byte) × (length front < length text)
 at_seam byte text front rest split =
     (rw split.joined (get_or-append_seam front byte rest 0), omega (arith, ap length split.joined, length-append front (byte ∷ rest)))
 
--- a byte of the front is another
+-- each byte of the prefix is another
 in_front : (byte i : ℕ) (text front rest : List ℕ) → IsSplit byte text front rest → i < length front → get_or text i 0 ≢ byte
 in_front byte i text front rest split below =
     rw (split.joined, get_or_append_left front (byte ∷ rest) 0 i below) (split.first i 0 below)

@@ -1,4 +1,4 @@
--- The words of entries: which have a request, and what stands in those that have none.
+-- The words of entries: which have a request, and what those that have none hold.
 use Rattle.std.specs.Prelude.{◌≡◌, ℕ, ◌≤◌, ◌==◌, ◌&&◌, Bool, true, false}
 use Rattle.r2_base.specs.declared.rid.Rid.{Rid}
 use Rattle.r2_base.specs.declared.entry.Kind.{Kind}

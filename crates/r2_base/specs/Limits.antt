@@ -9,7 +9,7 @@ greatest_number = 2 ^ 62
 abbrev pub greatest_member : ℕ
 greatest_member = 6
 
--- what stands in the place of the replier where there is no request
+-- the number in the place of the replier where there is no request
 abbrev pub no_replier : ℕ
 no_replier = 255
 

@@ -31,7 +31,7 @@ pub fn read_addr(text: &[u8]) -> Option<Addr>
     })
 }
 
-/// The number before the first `end`, and the text behind it.
+/// The number before the first `end`, and the text after it.
 fn read_octet(text: &[u8], end: u8) -> Option<(u8, &[u8])>
     requires { is_ascii_digit end ≡ false }
     ensures found { IfSome result (λ p. (p.0 < 256) × (text.now ≡ decimal p.0 ++ end ∷ p.1.now)) }

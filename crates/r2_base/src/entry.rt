@@ -14,7 +14,7 @@ pub enum Kind {
     Read,
 }
 
-/// The fixed-size part of an entry of the log. The request's body stands apart from it (HovercRaft, on separating the
+/// The fixed-size part of an entry of the log. The request's body is kept apart from it (HovercRaft, on separating the
 /// replication of requests from their order).
 ///
 /// A Blank entry has the request id of all zeros and the replier 255, and it has no request.

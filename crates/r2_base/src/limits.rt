@@ -6,7 +6,7 @@ pub const GREATEST_NUMBER: u64 = 1 << 62;
 /// The greatest number of a member: a group has at most 7, counted from 0.
 pub const GREATEST_MEMBER: u8 = 6;
 
-/// What stands in the place of the replier where there is no request.
+/// The number in the place of the replier where there is no request.
 pub const NO_REPLIER: u8 = 255;
 
 /// How many ids a client has for its requests, counted from 0.

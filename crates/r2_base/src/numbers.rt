@@ -16,7 +16,7 @@ pub fn push_u16(out: &mut Vec<u8>, n: u16) -> Result<(), NoMemory>
     Ok(())
 }
 
-/// The number in the first two bytes, and the bytes behind them.
+/// The number in the first two bytes, and the bytes after them.
 pub fn split_u16(bytes: &[u8]) -> Option<(u16, &[u8])>
     ensures found { IfSome result (λ p. bytes.now ≡ u16_bytes p.0 ++ p.1.now) }
     ensures only { (n : ℕ) (rest : List ℕ) → n < 2 ^ 16 → bytes.now ≡ u16_bytes n ++ rest → IsSomeAnd result (λ p. (p.0 ≡ n) × (p.1.now ≡ rest)) }
@@ -41,7 +41,7 @@ pub fn push_u32(out: &mut Vec<u8>, n: u32) -> Result<(), NoMemory>
     Ok(())
 }
 
-/// The number in the first four bytes, and the bytes behind them.
+/// The number in the first four bytes, and the bytes after them.
 pub fn split_u32(bytes: &[u8]) -> Option<(u32, &[u8])>
     ensures found { IfSome result (λ p. bytes.now ≡ u32_bytes p.0 ++ p.1.now) }
     ensures only { (n : ℕ) (rest : List ℕ) → n < 2 ^ 32 → bytes.now ≡ u32_bytes n ++ rest → IsSomeAnd result (λ p. (p.0 ≡ n) × (p.1.now ≡ rest)) }
@@ -66,7 +66,7 @@ pub fn push_u64(out: &mut Vec<u8>, n: u64) -> Result<(), NoMemory>
     Ok(())
 }
 
-/// The number in the first eight bytes, and the bytes behind them.
+/// The number in the first eight bytes, and the bytes after them.
 pub fn split_u64(bytes: &[u8]) -> Option<(u64, &[u8])>
     ensures found { IfSome result (λ p. bytes.now ≡ u64_bytes p.0 ++ p.1.now) }
     ensures only { (n : ℕ) (rest : List ℕ) → n < 2 ^ 64 → bytes.now ≡ u64_bytes n ++ rest → IsSomeAnd result (λ p. (p.0 ≡ n) × (p.1.now ≡ rest)) }

@@ -2,7 +2,7 @@ ghost use Rattle.std.specs.Prelude.{◌≡◌, ℕ, ◌+◌, ◌-◌, ◌*◌, �
 ghost use Rattle.std.specs.Fmt.{decimal};
 ghost use Rattle.r2_base.specs.Text.{IsSplit};
 
-/// The text before the first such byte, and the text behind it.
+/// The text before the first such byte, and the text after it.
 pub fn split_once(text: &[u8], byte: u8) -> Option<(&[u8], &[u8])>
     ensures found { IfSome result (λ p. IsSplit byte text.now p.0.now p.1.now) }
     ensures only { (front rest : List ℕ) → IsSplit byte text.now front rest → IsSomeAnd result (λ p. (p.0.now ≡ front) × (p.1.now ≡ rest)) }
@@ -39,7 +39,7 @@ fn has_leading_zero(text: &[u8]) -> bool
     text.len() > 1 && text[0] == b'0'
 }
 
-/// The number with that digit behind it, if it is at most `most`.
+/// The number with that digit after it, if it is at most `most`.
 fn one_more_digit(value: u64, digit: u8, most: u64) -> Option<u64>
     ensures { SomeIff result ((48 ≤ digit) × (digit ≤ 57) × (value * 10 + (digit - 48) ≤ most)) (value * 10 + (digit - 48)) }
 {

@@ -125,7 +125,7 @@ ticked_at wait tries n s is =
     let own = ticked_open n s s.open_call is.call in
     subst (λ (w : ℕ). TicksAt w tries (n + 1) (ticked s)) is.wait_is (subst (λ (t : ℕ). TicksAt s.wait t (n + 1) (ticked s)) is.tries_is own)
 
--- behind any events, a call that none of them ended is at the tick that is the number of those before and the ticks among them
+-- after any events, a call that none of them ended is at the tick that is the number of those before and the ticks among them
 after_at : (wait tries n : ℕ) (s : SessionState) (events : List Event) → IsAt wait tries n s → EndNothing s events
     → IsAt wait tries (n + ticks_among events) (after s events)
 unfolding after ticks_among

@@ -17,12 +17,12 @@ use Rattle.r2_client.specs.Runs.{EndNothing, Input, after, ids_of, ticks_among}
 use Rattle.r2_client.specs.Session.{began, received, ticked}
 use Rattle.r2_client.specs.State.{SessionState, session_from}
 
--- the next tick behind so many ends the call exactly where it is the last of them, and a datagram never times it out
+-- the next tick after so many ends the call exactly where it is the last of them, and a datagram never times it out
 pub record TimesOutAt (last ticks : ℕ) (s : SessionState) : Type 0 where
   pub tick : (ticked s).step.end ≡ (if ticks + 1 == last then Some TimedOut else None)
   pub datagram : (d : Datagram) → ¬ ((received s d).step.end ≡ Some TimedOut)
 
--- so it is behind any events since a call began that leave it open, and the last tick is number `wait * tries`, whatever parts
+-- so it is after any events since a call began that leave it open, and the last tick is number `wait * tries`, whatever parts
 -- servers called for between
 abbrev pub TimesOutAtItsTick : Type 0
 TimesOutAtItsTick =

@@ -6,7 +6,7 @@ use Rattle.r2_client.specs.declared.begin_fault.BeginFault.{BeginFault}
 use Rattle.r2_client.specs.Session.{began, new_call, refusal, stepped}
 use Rattle.r2_client.specs.State.{SessionState}
 
--- a session behind these events, one after another
+-- a session after these events, one after another
 unfoldable pub after : SessionState → List Event → SessionState
 after s [] = s
 after s (event ∷ more) = after (stepped s event).session more

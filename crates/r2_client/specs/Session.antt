@@ -38,7 +38,7 @@ new_call s policy body = record { id = s.next; policy = policy; body = body; tic
 unfoldable pub began : SessionState → ℕ → List ℕ → SessionState
 began s policy body = record s { next = s.next + 1; open_call = Some (new_call s policy body) }
 
--- a session behind an event, and what it does at it
+-- a session after an event, and what it does at it
 pub record Stepped : Type 0 where
   pub session : SessionState
   pub step : ClientStep

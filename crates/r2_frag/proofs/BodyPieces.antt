@@ -37,7 +37,7 @@ read_piece : (o : Option (List ℕ)) (p : List ℕ) → ((q : List ℕ) → o �
 read_piece (Some q) p are there = are q refl
 read_piece None p are there = cc
 
--- pieces of one body, of which each below a number is kept, join to the front of the body
+-- pieces of one body, of which each below a number is kept, join to a prefix of the body
 joined-front : (body : List ℕ) (pieces : List (Option (List ℕ))) → ((n : ℕ) (p : List ℕ) → piece_at n pieces ≡ Some p → p ≡ piece body n) → (count : ℕ) → has_all count pieces ≡ true → joined count pieces ≡ take (count * 1024) body
 unfolding has_all joined
 joined-front body pieces are zero all = refl
@@ -52,7 +52,7 @@ pub joined-body : (body : List ℕ) (pieces : List (Option (List ℕ))) → ((n 
 joined-body body pieces are all =
     joined-front body pieces are (part_count body) all ∙ take_all (part_count body * 1024) body (part_count-enough body)
 
--- the first pieces of a body, joined, are its front
+-- the first pieces of a body, joined, are a prefix of it
 pieces-front : (body : List ℕ) (n : ℕ) → concat (map (piece body) (range_with_len 0 n)) ≡ take (n * 1024) body
 pieces-front body zero = refl
 pieces-front body (suc n) =

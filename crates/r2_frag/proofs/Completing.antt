@@ -1,4 +1,4 @@
--- The answer to a part of the body behind a history: whole exactly at the last part that is missing.
+-- The answer to a part of the body after a history: whole exactly at the last part that is missing.
 use Rattle.std.proofs.Common.{◌≡◌, ◌<◌, ◌≤◌, ◌==◌, inl, inr, ℕ, zero, suc, true, false, is_some, length, List, ◌∷◌, Option, Some, None, refl, ap, sym, ◌∙◌, subst, arith}
 use Rattle.std.proofs.lemmas.Bool.{and_from, cases_Bool, eqb-true}
 use Rattle.std.proofs.lemmas.Option.{cond_some}

@@ -1,4 +1,4 @@
--- The index of the kept replies: how it goes on, and what it tells.
+-- The index of the kept replies: how it goes on, and what it shows.
 use Rattle.std.proofs.Common.{◌≡◌, ◌<◌, ◌≤◌, ◌+◌, ◌-◌, ◌==◌, inl, inr, ℕ, Bool, false, cond, if◌then◌else◌, List, [], ◌∷◌, ◌++◌, reverse, Some, None, length, drop, slice_get, get_or, set, refl, sym, ap, subst, ◌∙◌, arith}
 use Rattle.std.specs.Prelude.{slice_index, nat_lt}
 use Rattle.std.specs.List.{All, find}

@@ -1,4 +1,4 @@
--- Whose message is found behind a change, where no key has two.
+-- Whose message is found after a change, where no key has two.
 use Rattle.std.proofs.Common.{◌≡◌, inl, inr, Bool, true, false, is_some, List, [], ◌∷◌, ◌++◌, Option, Some, None, refl, sym, ◌∙◌, subst}
 use Rattle.std.specs.List.{find}
 use Rattle.std.specs.Option.{option_or}
@@ -55,11 +55,11 @@ module _ (p : Unfinished → Bool) where
             ])
       ]
 
-  -- nor in front of one that isn't
+  -- nor where one that isn't is added last
   pub none-push : (messages : List Unfinished) (next : Unfinished) → p next ≡ false → find p messages ≡ None → find p (messages ++ next ∷ []) ≡ None
   none-push messages next h e = find-append p messages (next ∷ []) ∙ rw (e, h) refl
 
-  -- one that isn't it changes nothing behind
+  -- a last one that isn't changes nothing of what is found
   pub find-push_other : (messages : List Unfinished) (next : Unfinished) → p next ≡ false → find p (messages ++ next ∷ []) ≡ find p messages
   find-push_other messages next h =
       find-append p messages (next ∷ []) ∙ rw h (or_none (find p messages))
@@ -148,7 +148,7 @@ AreDistinct-put next (m ∷ rest) d =
           rw f (none-put (is_of m.key) next rest (same_key-comm m.key next.key f) d.0, AreDistinct-put next rest d.1)
     ]
 
--- and with one behind, whose key none has
+-- and with one added last, whose key none has
 pub AreDistinct-push : (messages : List Unfinished) (next : Unfinished) → find (is_of next.key) messages ≡ None → AreDistinct messages → AreDistinct (messages ++ next ∷ [])
 AreDistinct-push [] next e d = (refl, tt)
 AreDistinct-push (m ∷ rest) next e d =

@@ -169,7 +169,7 @@ after_put body key other part parts next messages g o begun' =
           })
     ]
 
--- a message that is put behind the others
+-- a message that is put after the others
 after_push : (body : List ℕ) (key other : Key) (part : Part) (parts : List Part) (next : Unfinished) (messages : List Unfinished) → Gathers body key parts messages → GoesOn body key other part parts next → find (is_of next.key) messages ≡ None → Gathers body key (with_new key other part parts) (messages ++ next ∷ [])
 after_push body key other part parts next messages g o none =
     elim (cases_Bool (same_key other key)) [
@@ -213,7 +213,7 @@ goes_on-oldest body key other part parts next m o apart =
           rw stays (o.more t));
     }
 
--- what is gathered behind an answer
+-- what is gathered after an answer
 abbrev GathersBy : List ℕ → Key → Key → Part → List Part → Added × List Unfinished → Type 0
 GathersBy body key other part parts r = Gathers body key (parts_by r.0 key other part parts) r.1
 
@@ -316,7 +316,7 @@ after_added body key other parts messages h payload short g =
           record { holds = Holds-next body (numbers parts) (message_under other messages) h payload short mine_keeps.holds is; waits = e });
     }))
 
--- what is gathered behind a history
+-- what is gathered after a history
 pub gathers-after : (body : List ℕ) (key : Key) (steps : List Operation) → length body ≤ 65536 → Gathers body key (parts_under key steps) (messages_after steps)
 unfolding messages_after parts_under
 gathers-after body key [] short =

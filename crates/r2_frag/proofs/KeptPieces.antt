@@ -39,7 +39,7 @@ joined-none pieces = refl
 pub piece_at-other : (n number : ℕ) (pieces : List (Option (List ℕ))) (piece : Option (List ℕ)) → n ≢ number → piece_at n (set pieces number piece) ≡ piece_at n pieces
 piece_at-other n number pieces piece h = get_or-set_other pieces number n piece None h
 
--- and stands at its own
+-- and is found at its own
 pub piece_at-same : (number : ℕ) (pieces : List (Option (List ℕ))) (piece : Option (List ℕ)) → number < length pieces → piece_at number (set pieces number piece) ≡ piece
 piece_at-same number pieces piece h = get_or-set_same pieces number piece None h
 

@@ -38,7 +38,7 @@ module _ {X : Type 0} (p : X → Bool) where
       let got = slice_get-get_or (reverse xs) i x back in
       cc
 
-  -- the newest is this one, where none behind it passes
+  -- the newest is this one, where none after it passes
   pub newest-here : (xs : List X) (i : ℕ) (x : X) → i < length xs → slice_get xs (length xs - i - 1) ≡ Some x → find p (take i (reverse xs)) ≡ None → p x ≡ true → find p (reverse xs) ≡ Some x
   newest-here xs i x h at none e = find-here (reverse xs) i x (at_back xs i x h at) none e
 

@@ -54,7 +54,7 @@ All-put P next (m ∷ rest) new all =
       | false ↦ All-cons P m (put next rest) (All-head P m rest all) (All-put P next rest new tail)
     ]
 
--- or behind which one is begun
+-- or after which one is begun
 pub All-begin : (P : Unfinished → Type 0) (next : Unfinished) (messages : List Unfinished) → P next → All P messages → All P (begin next messages).1
 unfolding begin
 All-begin P next [] new all = All-cons P next [] new (All-nil P)

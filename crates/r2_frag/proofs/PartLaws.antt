@@ -70,7 +70,7 @@ read-part spec body n sendable fits h =
     let header : Header = part_header spec (part_count body) n in
     spelling_is_read header (spelling header) (piece body n) (FitsHeader-part_header spec (part_count body) n fits) (record { valid = IsValid-part_header spec body n sendable h; same = refl })
 
--- and have its piece behind
+-- and have its piece after the header
 payload-part : (spec : PartSpec) (body : List ℕ) (n : ℕ) → drop (length (spelling (part_header spec (part_count body) n))) (part_datagram spec body n).bytes ≡ piece body n
 unfolding part_datagram
 payload-part spec body n =

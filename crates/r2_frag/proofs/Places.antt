@@ -1,4 +1,4 @@
--- Where a message stands, and what is left without it or with another in its place.
+-- Where a message is found, and what is left without it or with another in its place.
 use Rattle.std.proofs.Common.{◌≡◌, ◌<◌, ◌⊎◌, inl, inr, ℕ, zero, suc, true, false, List, [], ◌∷◌, Some, None, length, get_or, set, ltb, refl, ap, ◌∙◌, arith}
 use Rattle.std.specs.List.{find, position, position_or_len, remove}
 use Rattle.std.proofs.lemmas.Bool.{cases_Bool, ltb-false}
@@ -9,7 +9,7 @@ use Rattle.r2_frag.specs.declared.key.Key.{Key}
 use Rattle.r2_frag.specs.declared.unfinished.Unfinished.{Unfinished}
 use Rattle.r2_frag.specs.Assembly.{begun, is_of, put, without}
 
--- the first message with the key stands at this place
+-- the first message with the key is at this place
 pub record IsFirst (key : Key) (messages : List Unfinished) (place : ℕ) (d : Unfinished) : Type 0 where
   pub has : is_of key (get_or messages place d) ≡ true
   pub found : find (is_of key) messages ≡ Some (get_or messages place d)
@@ -21,13 +21,13 @@ pub record IsAbsent (key : Key) (messages : List Unfinished) : Type 0 where
   pub found : find (is_of key) messages ≡ None
   pub left : without key messages ≡ messages
 
--- a message in front that hasn't the key changes nothing
+-- a first message that hasn't the key changes nothing
 absent-more : (key : Key) (m : Unfinished) (rest : List Unfinished) → is_of key m ≡ false → IsAbsent key rest → IsAbsent key (m ∷ rest)
 unfolding without
 absent-more key m rest e a =
     record { found = rw e a.found; left = rw e (ap (λ (xs : List Unfinished). m ∷ xs) a.left) }
 
--- one in front that has it is the first
+-- where the first message has the key, it is found at place 0
 first-here : (key : Key) (m : Unfinished) (rest : List Unfinished) (d : Unfinished) → is_of key m ≡ true → IsFirst key (m ∷ rest) 0 d
 unfolding without put
 first-here key m rest d e =

@@ -171,7 +171,7 @@ added-first messages key h payload valid absent good several =
     let a = IsAbsent-position key messages absent in
     added-taken messages key h payload good ∙ rw (message_under-absent key messages absent, whole, key-begun key, a.found) refl
 
--- a message behind the others, where there is room
+-- a message after the others, where there is room
 pub begin-room : (next : Unfinished) (messages : List Unfinished) → length messages < 256 → begin next messages ≡ (More, messages ++ next ∷ [])
 unfolding begin
 begin-room next [] h = refl

@@ -1,4 +1,4 @@
--- The replies that are kept, the oldest first, and the index that tells which requests have none.
+-- The replies that are kept, the oldest first, and the index that shows which requests have none.
 use Rattle.std.specs.Prelude.{◌≡◌, ℕ, ◌+◌, ◌*◌, ◌%◌, ◌<◌, ◌≤◌, ◌==◌, List, [], ◌∷◌, ◌++◌, length, reverse, slice_index, count_by, Option}
 use Rattle.std.specs.List.{find}
 use Rattle.circular_buffer.specs.Buffer.{Buffer, keep_last}
@@ -22,7 +22,7 @@ newest rid replies = find (λ reply. same_rid reply.rid rid) (reverse replies)
 abbrev pub bucket_count : ℕ
 bucket_count = 65536
 
--- the bucket of a request id: those of one client stand side by side, those of different clients mostly apart
+-- the bucket of a request id: those of one client lie side by side, those of different clients mostly apart
 unfoldable pub bucket_of : Rid → ℕ
 bucket_of rid = (rid.id + rid.client.ip * 40503 + rid.client.port * 30011) % bucket_count
 

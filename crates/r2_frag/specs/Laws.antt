@@ -99,7 +99,7 @@ pub record FitsHeaders (spec : PartSpec) : Type 0 where
   pub id : spec.key.rid.id < id_limit
   pub client : FitsClient (carried spec)
 
--- the datagram of a part stands at its place among those of the body: it goes between the addresses asked for, its bytes
+-- the datagram of a part has its place among those of the body: it goes between the addresses asked for, its bytes
 -- are those of a valid header and a piece and read as these, and header and piece are a part of the body
 pub record IsPart (spec : PartSpec) (body : List ℕ) (n : ℕ) : Type 0 where
   pub placed : slice_get (parts_of spec body) n ≡ Some (part_datagram spec body n)

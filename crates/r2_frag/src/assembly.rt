@@ -60,10 +60,10 @@ impl Assembly {
     }
 
     /// Adds a part of a message: the payload after this header, in a datagram with this key. The header is of the key's
-    /// class, as `key_of` tells.
+    /// class, as `key_of` finds it.
     ///
     /// Where a message begins and `MOST_UNFINISHED` are unfinished, the one begun first is given up. `Bad` and `Repeat`
-    /// change nothing and take no memory, and nor does want of memory change anything.
+    /// change nothing and take no memory, and where memory runs out nothing changes either.
     pub fn add(&mut self, key: Key, header: &Header, payload: &[u8]) -> Result<Added, NoMemory>
         requires valid { IsValid header.now }
         requires class { class_of header.now.packet ≡ Some key.class }

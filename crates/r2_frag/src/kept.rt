@@ -22,8 +22,8 @@ pub struct KeptReply {
 
 /// The last `MOST_KEPT` replies, the oldest first.
 ///
-/// Most requests are new: so an index tells at once of most of them that they have no reply (a counting Bloom filter, with
-/// one hash function). Only where it can't tell are the replies gone through, the newest first.
+/// Most requests are new: so an index shows at once of most of them that they have no reply (a counting Bloom filter, with
+/// one hash function). Only where it can't are the replies gone through, the newest first.
 #[derive(Drop)]
 pub struct Kept {
     replies: HeapCircularBuffer<KeptReply>,

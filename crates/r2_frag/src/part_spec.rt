@@ -1,7 +1,7 @@
 use crate::Key;
 use r2_base::Addr;
 
-/// What stands in each datagram of a message beside the body.
+/// What each datagram of a message holds beside the body.
 #[derive(Clone, Copy, Debug, PartialEq, Eq)]
 pub struct PartSpec {
     pub key: Key,

@@ -131,7 +131,7 @@ zeros m n e =
     let parts = and_parts (m == 0) (n == 0) e in
     (grind (arith, nat_tests), grind (arith, nat_tests))
 
--- bytes behind the first eight, where the size is 16
+-- bytes after the first eight, where the size is 16
 begins_long : (a b c d e f : ℕ) (rest : List ℕ) → Begins (eight 0x52 16 a b c d e f rest)
 begins_long a b c d e f [] ranges p = too_short p.room
 begins_long a b c d e f (g ∷ []) ranges p = too_short p.room

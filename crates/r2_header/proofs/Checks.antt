@@ -28,7 +28,7 @@ no_fault : (cs : List Check) → EachPasses cs → first_fault cs ≡ None
 no_fault [] p = refl
 no_fault (c ∷ cs) p = rw p.0 (no_fault cs p.1)
 
--- a check that has no fault is passed, and none behind it has one
+-- a check that has no fault is passed, and none after it has one
 passes_here : (passes : Bool) (fault : HeaderFault) (rest : Option HeaderFault) → (if passes then rest else Some fault) ≡ None → (passes ≡ true) × (rest ≡ None)
 passes_here true fault rest e = (refl, e)
 passes_here false fault rest e = cc

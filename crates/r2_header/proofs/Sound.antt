@@ -41,7 +41,7 @@ size_with-least : (client : Option Addr) → 8 ≤ size_with client
 size_with-least None = omega arith
 size_with-least (Some a) = omega arith
 
--- the bytes behind the client's address are zero
+-- the bytes after the client's address are zero
 is_zero_padded-spelling : (h : Header) (client : Option Addr) (rest : List ℕ) → h.client ≡ client → is_zero_padded (spelling h ++ rest) ≡ true
 unfolding spelling kind_bytes u16_bytes u32_bytes client_bytes
 is_zero_padded-spelling h None rest e = rw e refl
@@ -84,7 +84,7 @@ size-spelling : (h : Header) (rest : List ℕ) → slice_index (spelling h ++ re
 unfolding spelling kind_bytes
 size-spelling h rest = sym (length-spelling h)
 
--- a valid header's bytes, whatever stands behind them, read as that header and their number
+-- a valid header's bytes, whatever follows them, read as that header and their number
 pub spelling_is_read : SpellingIsRead
 spelling_is_read h bytes rest fits spells =
     let low_policy = policies-most h.packet (is_some h.client) in
@@ -98,7 +98,7 @@ spelling_is_read h bytes rest fits spells =
     (sym spells.same)
     (read ∙ ap (λ (n : ℕ). Ok (h, n)) (size-spelling h rest))
 
--- where a valid header's bytes stand in front, they are read back
+-- where bytes begin with those of a valid header, it is read back
 pub read_back : (h : Header) (bytes rest : List ℕ) (n : ℕ) → FitsHeader h → IsValid h → n ≡ size_with h.client → bytes ≡ spelling h ++ rest → header_at bytes ≡ Ok (h, n)
 read_back h bytes rest n fits valid size e =
     let read = spelling_is_read h (spelling h) rest fits (record { valid = valid; same = refl }) in

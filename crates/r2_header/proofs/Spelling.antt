@@ -17,7 +17,7 @@ pub length-spelling : (h : Header) → length (spelling h) ≡ size_with h.clien
 unfolding spelling kind_bytes u16_bytes
 length-spelling h = let e = length-client_bytes h.client in omega (arith, e)
 
--- where a header's bytes stand in front, the first bytes of its size spell it
+-- where bytes begin with those of a header, the first ones, as many as its size, encode it
 pub Spells_front : (h : Header) (bytes rest : List ℕ) (n : ℕ) → IsValid h → n ≡ size_with h.client → bytes ≡ spelling h ++ rest → Spells h (take n bytes)
 Spells_front h bytes rest n valid size e =
     let counted : n ≡ length (spelling h) = size ∙ sym (length-spelling h) in

@@ -14,7 +14,7 @@ pub and_parts : (a b : Bool) → (a && b) ≡ true → (a ≡ true) × (b ≡ tr
 and_parts true b e = (refl, e)
 and_parts false b e = (e, cc)
 
--- a number that passes the test stands in the span
+-- a number that passes the test is in the span
 pub is_within-true : (s : Span) (n : ℕ) → is_within s n ≡ true → IsWithin s n
 is_within-true s n e =
     let parts = and_parts (nat_le s.least n) (nat_le n s.most) e in

@@ -1,4 +1,4 @@
--- The header grammar: which headers are valid, and the bytes that spell each.
+-- The header grammar: which headers are valid, and the bytes that encode each.
 use Rattle.std.specs.Prelude.{◌≡◌, ℕ, ◌+◌, ◌*◌, ◌==◌, Bool, true, false, if◌then◌else◌, List, [], ◌∷◌, ◌++◌, Option, Some, None, is_some}
 use Rattle.r2_base.specs.declared.addr.Addr.{Addr}
 use Rattle.r2_base.specs.Numbers.{u16_bytes, u32_bytes}

@@ -17,7 +17,7 @@ pub record FitsHeader (h : Header) : Type 0 where
   pub id : h.id < id_limit
   pub client : FitsClient h.client
 
--- a valid header's bytes, whatever stands after them, read as that header and their number
+-- a valid header's bytes, whatever follows them, read as that header and their number
 abbrev pub SpellingIsRead : Type 0
 SpellingIsRead =
     (h : Header) (bytes rest : List ℕ) → FitsHeader h → Spells h bytes → header_at (bytes ++ rest) ≡ Ok (h, length bytes)

@@ -1,4 +1,4 @@
--- What bytes read as: the fields that stand in them, and the checks in their order.
+-- What bytes read as: the fields that they hold, and the checks in their order.
 use Rattle.std.specs.Prelude.{ℕ, ◌+◌, ◌≤◌, ◌/◌, ◌%◌, ◌==◌, Bool, true, false, not, ◌&&◌, ◌||◌, if◌then◌else◌, List, [], ◌∷◌, ◌++◌, Option, Some, None, is_some, Result, Ok, Err, drop, length, nat_le, slice_index}
 use Rattle.byteorder.specs.Endian.{big_number}
 use Rattle.r2_base.specs.declared.addr.Addr.{Addr}
@@ -39,7 +39,7 @@ client_at bytes =
     then Some (record { ip = u32_at short.ip bytes; port = u16_at short.port bytes })
     else None
 
--- the fields as they stand in the bytes
+-- the fields that the bytes hold
 unfoldable pub fields_at : List ℕ → Header
 fields_at bytes =
     record {
@@ -80,7 +80,7 @@ abbrev pub is_in_table : ℕ → Header → Bool
 is_in_table type h =
     nat_le type 7 && is_within (policies h.packet (is_some h.client)) h.policy && id_fits h.packet h.id
 
--- where the client's address stands in the bytes, the two after it are zero
+-- where the bytes hold the client's address, the two after it are zero
 abbrev pub is_zero_padded : List ℕ → Bool
 is_zero_padded bytes =
     not (slice_index bytes 1 == short.size_with_client) || (slice_index bytes short.padding == 0 && slice_index bytes (short.padding + 1) == 0)

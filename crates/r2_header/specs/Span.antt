@@ -10,12 +10,12 @@ from_to least most = record { least = least; most = most }
 abbrev pub no_number : Span
 no_number = record { least = 1; most = 0 }
 
--- a number stands in the span
+-- a number is in the span
 pub record IsWithin (s : Span) (n : ℕ) : Type 0 where
   pub low : s.least ≤ n
   pub high : n ≤ s.most
 
--- whether a number stands in the span
+-- whether a number is in the span
 abbrev pub is_within : Span → ℕ → Bool
 is_within s n = nat_le s.least n && nat_le n s.most
 

@@ -2,7 +2,7 @@
 
 ghost use Rattle.r2_header.specs.Laws.{SpellingIsRead, WhatIsReadIsSpelled};
 
-/// The reader takes a valid header's bytes, whatever stands after them.
+/// The reader takes a valid header's bytes, whatever follows them.
 pub fn a_spelling_is_read()
     ensures { SpellingIsRead }
 {}

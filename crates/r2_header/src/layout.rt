@@ -1,4 +1,4 @@
-/// The sizes of a header in bytes, and where its fields stand after the first byte and the size.
+/// The sizes of a header in bytes, and where its fields are after the first byte and the size.
 #[derive(Clone, Copy, Debug, PartialEq, Eq)]
 pub struct Layout {
     /// The size without the client's address.

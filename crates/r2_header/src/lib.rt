@@ -1,4 +1,4 @@
-//! Headers of R2P2 packets: what each type of packet may say, the one spelling of a header, and its reading.
+//! Headers of R2P2 packets: what each type of packet may say, the one encoding of a header, and its reading.
 #![tactic(auto)]
 
 mod header;

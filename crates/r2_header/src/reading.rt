@@ -56,7 +56,7 @@ fn is_size(n: u8) -> bool
     n == SHORT.size || n == SHORT.size_with_client
 }
 
-/// The fields as they stand in the bytes.
+/// The fields that the bytes hold.
 #[tactic(auto, unfolding(crate::specs::Reading::fields_at, crate::specs::Reading::u16_at))]
 fn fields_at(bytes: &[u8]) -> Header
     requires { HasForm bytes.now }
@@ -169,7 +169,7 @@ mod tests {
     /// A request of one part under REPLICATED, of id 7.
     const ONE_PART: [u8; 8] = [0x52, 8, 0x02, 0xC0, 0, 7, 0, 1];
 
-    /// Bytes that go wrong in one place, or in two, and what is told of them.
+    /// Bytes that go wrong in one place, or in two, and the fault that is reported.
     const REFUSED: [(&[u8], HeaderFault); 9] = [
         (&[0x52, 8, 0x02, 0xC0, 0, 7, 0], HeaderFault::Short),
         (&[0x53, 8, 0x02, 0xC0, 0, 7, 0, 1], HeaderFault::Magic),

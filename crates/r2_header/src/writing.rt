@@ -14,8 +14,8 @@ use r2_base::Addr;
 /// The first byte of each header.
 pub const MAGIC: u8 = 0x52;
 
-/// Writes the one spelling of `h`, which is a valid header, and answers its size. `out` has room for `HEADER_ROOM` bytes;
-/// those after the header stay.
+/// Writes the one encoding of `h`, which is a valid header, and answers its size. `out` has room for `HEADER_ROOM` bytes;
+/// those after the header stay unchanged.
 #[tactic(auto, using(crate::proofs::Spelling::Spells_front))]
 pub fn write(h: &Header, out: &mut [u8]) -> usize
     requires valid { IsValid h.now }

@@ -36,7 +36,7 @@ same-end : (c : Bool) (x : Rid) (xs ys : List Rid) → cond c (x ∷ (xs ++ ys))
 same-end true x xs ys = refl
 same-end false x xs ys = refl
 
--- a name in front
+-- a name at the beginning
 without-cons : (rid other : Rid) (names : List Rid) → names_without rid (other ∷ names) ≡ cond (same_rid other rid) (names_without rid names) (other ∷ names_without rid names)
 without-cons rid other names =
     rw (same_rid-sym other rid)

@@ -1,4 +1,4 @@
--- Histories behind any events.
+-- Histories after any events.
 use Rattle.std.proofs.Common.{◌≡◌, ◌<◌, ℕ, true, false, List, [], ◌∷◌, ◌++◌, length, refl, sym, subst, ap, ◌∙◌, arith}
 use Rattle.std.specs.Prelude.{map, replicate, sum, sum_by}
 use Rattle.std.specs.List.{list_any, range_with_len}

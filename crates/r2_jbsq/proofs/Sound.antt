@@ -155,7 +155,7 @@ freed-keeps : (n servers : ℕ) (rows : List (List RoutedRequest)) (queue : List
 freed-keeps n servers rows [] rid server k w = close-keeps n servers rows rid server k w
 freed-keeps n servers rows (request ∷ more) rid server k w = move-keeps n servers rows request more rid server k w
 
--- what is behind a step that keeps all that
+-- what there is after a step that keeps all that
 behind-sound : (r : RouterState) (behind : Standing) (accepted forwarded answered a f b : ℕ) → IsSound r → a ≤ 1
     → accepted ≡ r.accepted + a → forwarded ≡ r.forwarded + f → answered ≡ r.answered + b
     → Keeps r.setup.n (length r.setup.servers) r.standing behind a f b

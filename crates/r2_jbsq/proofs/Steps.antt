@@ -1,4 +1,4 @@
--- A router that stands for a history stands, behind a step, for the history with the step's marks.
+-- A router that stands for a history stands, after a step, for the history with the step's marks.
 use Rattle.std.proofs.Common.{◌≡◌, ◌<◌, ◌≤◌, ◌+◌, ℕ, Bool, false, cond, List, [], ◌∷◌, ◌++◌, length, refl, sym, subst, ap, ◌∙◌, arith, append_assoc, append-nil}
 use Rattle.std.specs.Prelude.{not, count_by, drop, Option, Some, None}
 use Rattle.std.specs.List.{filter, list_any}
@@ -21,7 +21,7 @@ use Rattle.r2_jbsq.proofs.Histories.{accept-mark, answer-mark, forward-mark, len
 use Rattle.r2_jbsq.proofs.Marks.{names_without, waits-once}
 use Rattle.r2_base.proofs.SameNames.{same_rid-same}
 
--- what is open and waits behind a step
+-- what is open and waits after a step
 abbrev pub moved : ℕ → Standing → Decision → Standing
 moved n s decision.Nothing = s
 moved n s (decision.Reject rid) = s
@@ -110,7 +110,7 @@ done n servers history rid from inside =
     ap (standing_in servers) (sym (append_assoc history (Answer rid from ∷ []) (next_marks (next n (closed rid from (standing_in servers history))))))
     ∙ subst (λ (s : Standing). standing_in servers (behind ++ next_marks (next n s)) ≡ moved_on s (next n s)) is (next-stands n servers behind)
 
--- what is open and waits behind a step
+-- what is open and waits after a step
 pub step-stands : (n servers : ℕ) (history : List Mark) (s : Decision) → Fits n (standing_in servers history) s
     → standing_in servers (history ++ marks_of n (standing_in servers history) s) ≡ moved n (standing_in servers history) s
 step-stands n servers history decision.Nothing w = ap (standing_in servers) (append-nil history)
@@ -123,7 +123,7 @@ step-stands n servers history (decision.Forward request to) w =
 step-stands n servers history (decision.Close rid from) w =
     done n servers history rid from (omega (arith, w.is_server, length-rows servers history))
 
--- a count of marks, behind more of them
+-- a count of marks, with more of them after those
 more-marks : (p : Mark → Bool) (count : ℕ) (history more : List Mark) → count ≡ count_by p history → count + count_by p more ≡ count_by p (history ++ more)
 more-marks p count history more e = ap (λ c. c + count_by p more) e ∙ sym (sum_by-append (λ m. cond (p m) 1 0) history more)
 
@@ -203,7 +203,7 @@ carried_out-setup r (decision.Queue request) = refl
 carried_out-setup r (decision.Forward request to) = refl
 carried_out-setup r (decision.Close rid from) = passed_on-setup (freed r rid from) (next r.setup.n (closed rid from r.standing))
 
--- the router and its history, behind a step
+-- the router and its history, after a step
 pub carried_out-stands : (r : RouterState) (history : List Mark) (s : Decision) → StandsFor r history → Fits r.setup.n r.standing s
     → StandsFor (counted (carried_out r s)) (history ++ marks_of r.setup.n r.standing s)
 carried_out-stands r history s k w =
@@ -244,7 +244,7 @@ turned-turns r event = ap (λ n. n + 1) (carried_out-turns r (decision_at r.setu
 pub rows-stand : (r : RouterState) (history : List Mark) → StandsFor r history → length r.standing.rows ≡ length r.setup.servers
 rows-stand r history k = ap (λ (s : Standing). length s.rows) k.standing ∙ length-rows (length r.setup.servers) history
 
--- behind an event
+-- after an event
 pub turned-stands : (r : RouterState) (history : List Mark) (event : Event) → StandsFor r history → StandsFor (turned r event) (history ++ marks r.setup history event)
 unfolding turned marks
 turned-stands r history event k =

@@ -23,7 +23,7 @@ use Rattle.r2_base.specs.Names.{same_addr}
 use Rattle.r2_jbsq.specs.Limits.{most_waiting}
 use Rattle.r2_jbsq.specs.Standing.{Standing, chosen, closed, has, is_known, next, row_at, standing_in}
 
--- a packet as it goes to a server: the client's address stands in it, and all else is alike
+-- a packet as it goes to a server: it holds the client's address, and all else is alike
 unfoldable pub forwarded_packet : Header → Addr → List ℕ → List ℕ
 forwarded_packet h client payload = spelling (record h { client = Some client }) ++ payload
 
@@ -141,7 +141,7 @@ unfoldable pub answer : RouterSetup → List Mark → Event → List Datagram
 answer setup history event =
     let s = standing_of setup history in sends_of setup s (decision_at setup s event)
 
--- the history behind these events, one after another
+-- the history after these events, one after another
 unfoldable pub history_behind : RouterSetup → List Mark → List Event → List Mark
 history_behind setup history [] = history
 history_behind setup history (event ∷ more) = history_behind setup (history ++ marks setup history event) more

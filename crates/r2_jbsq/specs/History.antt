@@ -29,7 +29,7 @@ is_answer_of rid server (Accept other packet) = false
 is_answer_of rid server (Forward other to) = false
 is_answer_of rid server (Answer other from) = same_rid rid other && (server == from)
 
--- the requests open at a server: those that went to it, with no answer from it behind, in order
+-- the requests open at a server: those that went to it, with no answer from it afterwards, in order
 unfoldable pub open_at : ℕ → List Mark → List Rid
 open_at server [] = []
 open_at server (Accept rid packet ∷ behind) = open_at server behind

@@ -33,7 +33,7 @@ pub record AddsUp (servers : ℕ) (history : List Mark) : Type 0 where
   pub accepted : count_by is_accept history ≡ length (waiting history) + open_among servers history + count_by is_answer history
   pub forwarded : count_by is_forward history ≡ open_among servers history + count_by is_answer history
 
--- so it is behind any events
+-- so it is after any events
 abbrev pub ServersHoldAtMostN : Type 0
 ServersHoldAtMostN =
     (setup : RouterSetup) (events : List Event) → HoldsAtMost setup.n (length setup.servers) (history_behind setup [] events)

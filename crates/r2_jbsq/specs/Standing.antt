@@ -6,7 +6,7 @@ use Rattle.r2_jbsq.specs.declared.routed_request.RoutedRequest.{RoutedRequest}
 use Rattle.r2_jbsq.specs.History.{Mark, open_at, accepted_packet, waiting}
 use Rattle.r2_base.specs.Names.{same_rid}
 
--- the requests that are open, a row for each server, and those that wait, the oldest in front
+-- the requests that are open, a row for each server, and those that wait, the oldest first
 pub record Standing : Type 0 where
   pub rows : List (List RoutedRequest)
   pub queue : List RoutedRequest

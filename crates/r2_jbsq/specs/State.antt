@@ -55,7 +55,7 @@ passed_on r (Some (request, server)) =
     record r { standing = moved_on r.standing (Some (request, server)); forwarded = r.forwarded + 1 }
 passed_on r None = r
 
--- a router behind a step
+-- a router after a step
 abbrev pub carried_out : RouterState → Decision → RouterState
 carried_out r decision.Nothing = r
 carried_out r (decision.Reject rid) = r
@@ -75,8 +75,8 @@ abbrev pub IsFullWhileWaiting : ℕ → Standing → Type 0
 IsFullWhileWaiting n s = 0 < length s.queue → All (λ row. length row ≡ n) s.rows
 
 -- what holds of every router that can be reached: there is a row for each server, each holds at most n requests, a request
--- waits only while each holds n, at most so many wait as may, no request stands twice, and each that was accepted waits, is
--- open or was answered
+-- waits only while each holds n, at most so many wait as may, no request is held twice, and each that was accepted
+-- waits, is open or was answered
 pub record IsSound (r : RouterState) : Type 0 where
   pub rows : length r.standing.rows ≡ length r.setup.servers
   pub within : All (λ row. length row ≤ r.setup.n) r.standing.rows
@@ -123,10 +123,10 @@ Fits n s (decision.Forward request server) = IsNewAndGoes n request server s
 Fits n s (decision.Close rid server) = IsOpenAt rid server s
 Fits n s decision.Repeat = Unit {0}
 
--- a router behind one turn more
+-- a router after one turn more
 abbrev pub counted : RouterState → RouterState
 counted r = record r { turns = r.turns + 1 }
 
--- a router behind an event
+-- a router after an event
 unfoldable pub turned : RouterState → Event → RouterState
 turned r event = counted (carried_out r (decision_at r.setup r.standing event))

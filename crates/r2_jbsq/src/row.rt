@@ -8,7 +8,7 @@ use r2_base::{NoMemory, Rid};
 use std::alloc::Global;
 use std::marker::Model;
 
-/// The requests that are open at one server, the oldest in front. There is room for as many as may be.
+/// The requests that are open at one server, the oldest first. There is room for as many as may be.
 #[derive(Debug, Drop)]
 pub(crate) struct Row {
     requests: Vec<RoutedRequest>,

@@ -44,7 +44,7 @@ each-begun P (m ∷ rest) h =
     All-cons (λ (m : Unfinished). P m.key) m rest (h m.key (begun-here m rest)) (each-begun P rest (λ key e. h key (begun-after key m rest e)))
 
 module _ (since : Key → ℕ) where
-  -- one message more in front
+  -- one message more, before the others
   ageing-routed : (m : Unfinished) (rest : List Unfinished) → is_routed m ≡ true → ageing since (m ∷ rest) ≡ timer_of since m ∷ ageing since rest
   ageing-routed m rest t = rw t refl
 

@@ -1,4 +1,4 @@
-//! A plain server: it answers requests over R2P2 by itself, alone or behind a router, and replicates nothing.
+//! A plain server: it answers requests over R2P2 by itself, alone or reached through a router, and replicates nothing.
 #![tactic(auto)]
 
 pub mod laws;

@@ -40,7 +40,7 @@ impl<V: Writes> Server<V> {
     ghost use Rattle.r2_server.specs.State.{ServerState, begin};
     ghost use Rattle.r2_server.specs.Turn.{turned};
 
-    /// A server at `me`, behind the router where one is given, over a service that has executed nothing.
+    /// A server at `me`, reached through the router where one is given, over a service that has executed nothing.
     pub fn new(
         alloc: Global,
         me: Addr,

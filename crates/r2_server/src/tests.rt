@@ -64,7 +64,7 @@ impl Talk {
         self.push(event, to, bytes)
     }
 
-    /// A datagram comes with 1,024 bytes of a put behind these.
+    /// A datagram comes with these bytes and then 1,024 bytes of a put.
     fn hears_put(
         &mut self,
         from: Addr,

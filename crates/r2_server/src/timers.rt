@@ -20,7 +20,7 @@ pub struct Timer {
     pub began: u64,
 }
 
-/// The unfinished requests that age, the one begun first in front.
+/// The unfinished requests that age, the oldest first.
 #[derive(Debug, Drop)]
 pub(crate) struct Timers {
     timers: Vec<Timer>,

@@ -1,4 +1,4 @@
--- An octet's text is split at the byte that ends it, and its front is read whole.
+-- An octet's text is split at the byte that ends it, and the text before that byte is read whole.
 use Rattle.std.proofs.Common.{arith}
 use Rattle.r2_base.proofs.AddrTexts.{octet_split}
 use Rattle.r2_base.proofs.addr.read_octet.Goals as goal

@@ -1,4 +1,4 @@
--- What was put so far, and what the servers behind get, are all.
+-- What was put so far, and then what the servers from here on get, are all.
 use Rattle.std.proofs.Common.{◌≡◌, ◌++◌, drop}
 use Rattle.r2_jbsq.specs.Answer.{repeats}
 use Rattle.r2_jbsq.proofs.sending.repeats.Given as goal
