@@ -1,4 +1,4 @@
--- What the fields of a record read as is spelled so, and what is spelled so is read again.
+-- What the fields of a record read as is encoded so, and what is encoded so is read again.
 use Rattle.std.proofs.Common.{◌≡◌, ℕ, zero, suc, ◌≤◌, inl, inr, false, cond, leb, ltb, eqb, List, [], ◌∷◌, ◌++◌, length, take, drop, Option, Some, None, Ok, Err, refl, sym, ap, subst, ◌∙◌, append_assoc, arith}
 use Rattle.std.specs.Prelude.{IfSome}
 use Rattle.std.specs.List.{flat_map, AllByRecursion}
@@ -107,7 +107,7 @@ bytes_again body rest =
     let long : ltb (length (body ++ rest)) (length body) ≡ false = le-ltb _ _ (omega (arith, length-append body rest)) in
     rw (long, take_at body rest (length body) refl, drop_at body rest (length body) refl) refl
 
--- a body behind its length
+-- a body after its length
 abbrev sized : List ℕ → List ℕ
 sized body = u16_bytes (length body) ++ body
 
@@ -186,7 +186,7 @@ entries_again (s ∷ ss) rest kept =
 
 -- ---- a record
 
--- the fields of a record, one behind the other
+-- the fields of a record, one after the other
 parts : {bytes r1 r2 r3 r4 r5 : List ℕ} (term : ℕ) (vote : Option ℕ) (keep : ℕ) {count : ℕ} (entries : List Stored) → Takes bytes (u64_bytes term) r1 → Takes r1 (vote_number vote ∷ []) r2 → Takes r2 (u64_bytes keep) r3 → Takes r3 (count ∷ []) r4 → Takes r4 (flat_map stored_bytes entries) r5 → length entries ≡ count → Takes (record_version_1 ∷ bytes) (record_bytes (record { term = term; vote = vote; keep = keep; entries = entries })) r5
 unfolding record_bytes head_bytes
 parts {r3 = r3} {r4 = r4} term vote keep entries term_is vote_is keep_is count_is entries_are same =
@@ -199,7 +199,7 @@ pub record IsRead (bytes : List ℕ) (x : Record × List ℕ) : Type 0 where
   pub in_range : IsInRange x.0
   pub fits : FitsRecord x.0
 
--- what stands before the entries of a record
+-- what comes before the entries of a record
 record IsHead (bytes : List ℕ) (h : RecordHead) (rest : List ℕ) : Type 0 where
   term_is_set : 1 ≤ h.term
   term_fits : h.term ≤ greatest_number

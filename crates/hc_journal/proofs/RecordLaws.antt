@@ -28,7 +28,7 @@ ended_ok (Ok (n, b ∷ rest)) r e = absurd cc
 ended_ok (Err field.Short) r e = absurd cc
 ended_ok (Err field.Range) r e = absurd cc
 
--- the version that is read, and what stands after it
+-- the version that is read, and what comes after it
 versioned : (v : ℕ) (bytes : List ℕ) (r : Record) → cond (eqb v record_version_1) (ended (front_fields bytes)) (Err Version) ≡ Ok r → (v ≡ record_version_1) × (front_fields bytes ≡ Ok (r, []))
 versioned v bytes r e =
     elim (chosen (eqb v record_version_1) (ended (front_fields bytes)) (Err Version) (Ok r) e) [
@@ -51,7 +51,7 @@ what_is_read_is_spelled r (v ∷ bytes) are e =
       };
     }
 
--- the bytes of a record in range, and what stands behind them
+-- the bytes of a record in range, and what follows them
 reads : (r : Record) (rest : List ℕ) → FitsRecord r → IsInRange r → decode_record (record_bytes r ++ rest) ≡ ended (Ok (r, rest))
 unfolding decode_record record_bytes head_bytes
 reads r rest fits is =
@@ -68,7 +68,7 @@ spelling_is_read r bytes fits spells =
 pub bytes_behind_are_extra : BytesBehindAreExtra
 bytes_behind_are_extra r b rest fits is = reads r (b ∷ rest) fits is
 
--- what Extra is told of
+-- what reads as Extra: a record with a byte after it
 record IsBehind (read : Result (Record × List ℕ) FieldFault) : Type 0 where
   front : Record
   byte : ℕ
@@ -104,7 +104,7 @@ extra_is_behind_a_record (v ∷ bytes) are e =
       same = ap (λ (n : ℕ). n ∷ bytes) is.0 ∙ read.taken.parts;
     }
 
--- no bytes read as a want of memory
+-- no bytes read as a fault of memory
 ended_memory : (read : Result (Record × List ℕ) FieldFault) → ended read ≡ Err Memory → ⊥
 ended_memory (Ok (n, [])) e = cc
 ended_memory (Ok (n, b ∷ rest)) e = cc

@@ -82,7 +82,7 @@ range_kept (Ok (n, b ∷ more)) longer rest same e = absurd cc
 range_kept (Err field.Range) longer rest same e = rw same refl
 range_kept (Err field.Short) longer rest same e = absurd cc
 
--- what holds behind either version
+-- what holds after either version
 both : (b : Bool) (r longer : Fields) → KeepsRange r longer → cond b (ended r) (Err Version) ≡ Err Range → cond b (ended longer) (Err Version) ≡ Err Range
 both true r longer keeps e = keeps e
 both false r longer keeps e = absurd cc

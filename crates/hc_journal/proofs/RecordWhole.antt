@@ -30,7 +30,7 @@ no_version [] field.Short e = refl
 no_version [] field.Range e = absurd cc
 no_version (b ∷ bytes) f e = absurd cc
 
--- a version and what stands behind it
+-- a version and what comes after it
 versioned : (bytes : List ℕ) (v : ℕ) (fields : List ℕ) → front_byte bytes ≡ at v fields → decode_record bytes ≡ cond (eqb v record_version_1) (ended (front_fields fields)) (Err Version)
 unfolding decode_record
 versioned [] v fields e = absurd cc

@@ -7,7 +7,7 @@ use Rattle.hc_journal.specs.declared.journal.First.TheVariants as first
 use Rattle.hc_journal.specs.declared.journal.JournalFault.{JournalFault}
 use Rattle.hc_journal.specs.declared.journal.JournalFault.TheVariants.{Disk, Memory, Ended}
 
--- where records are told, this one may be the next
+-- where records are reported, this one may be the next
 abbrev pub FitsTold : Option (List Record) → Record → Type 0
 FitsTold None r = ⊤
 FitsTold (Some records) r = IsNext (replay records) r

@@ -11,7 +11,7 @@ use Rattle.hc_log.specs.Ranges.{IsInRange}
 abbrev pub record_version_1 : ℕ
 record_version_1 = 1
 
--- what stands in the place of the vote where there is none
+-- the number in the place of the vote where there is none
 abbrev pub no_vote : ℕ
 no_vote = 255
 
@@ -24,7 +24,8 @@ vote_number (Some member) = member
 unfoldable pub stored_bytes : Stored → List ℕ
 stored_bytes s = narrow_entry_bytes s.entry ++ u16_bytes (length s.body) ++ s.body
 
--- what stands before a record's entries: version, term, vote, how many entries still stand, and their count
+-- what comes before a record's entries: version, term, vote, how many entries before them are kept,
+-- and their count
 unfoldable pub head_bytes : Record → List ℕ
 head_bytes r =
     record_version_1 ∷ u64_bytes r.term ++ vote_number r.vote ∷ u64_bytes r.keep ++ length r.entries ∷ []

@@ -10,7 +10,7 @@ abbrev pub record_fault_of : FieldFault → RecordFault
 record_fault_of field.Short = Short
 record_fault_of field.Range = Range
 
--- whether a fault is a want of memory
+-- whether a fault is that memory ran out
 abbrev pub is_memory : RecordFault → Bool
 is_memory Version = false
 is_memory Short = false

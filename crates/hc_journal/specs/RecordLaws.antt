@@ -25,12 +25,12 @@ pub record IsSpelled (r : Record) (bytes : List ℕ) : Type 0 where
 abbrev pub WhatIsReadIsSpelled : Type 0
 WhatIsReadIsSpelled = (r : Record) (bytes : List ℕ) → AreBytes bytes → decode_record bytes ≡ Ok r → IsSpelled r bytes
 
--- the bytes of a record in range with others behind them read as Extra
+-- the bytes of a record in range with others after them read as Extra
 abbrev pub BytesBehindAreExtra : Type 0
 BytesBehindAreExtra =
     (r : Record) (b : ℕ) (rest : List ℕ) → FitsRecord r → IsInRange r → decode_record (record_bytes r ++ b ∷ rest) ≡ Err Extra
 
--- the bytes are those of a record in range with others behind them
+-- the bytes are those of a record in range with others after them
 pub record HasRecordInFront (bytes : List ℕ) : Type 0 where
   pub front : Record
   pub fits : FitsRecord front
@@ -43,7 +43,7 @@ pub record HasRecordInFront (bytes : List ℕ) : Type 0 where
 abbrev pub ExtraIsBehindARecord : Type 0
 ExtraIsBehindARecord = (bytes : List ℕ) → AreBytes bytes → decode_record bytes ≡ Err Extra → HasRecordInFront bytes
 
--- no bytes read as a want of memory
+-- no bytes read as a fault of memory
 abbrev pub NoBytesWantMemory : Type 0
 NoBytesWantMemory = (bytes : List ℕ) → decode_record bytes ≢ Err Memory
 
@@ -62,7 +62,7 @@ PrefixesAreShort =
     (r : Record) (prefix rest : List ℕ) → FitsRecord r → IsInRange r → record_bytes r ≡ prefix ++ rest → length prefix < length (record_bytes r)
     → decode_record prefix ≡ Err Short
 
--- bytes of which a field is out of its range stay so, whatever stands after them
+-- bytes of which a field is out of its range stay so, whatever follows them
 abbrev pub RangeStays : Type 0
 RangeStays = (bytes rest : List ℕ) → decode_record bytes ≡ Err Range → decode_record (bytes ++ rest) ≡ Err Range
 

@@ -28,7 +28,7 @@ most_body_of kind = if is_request kind then most_body else 0
 unfoldable pub front_bytes : ℕ → List ℕ → Result (List ℕ × List ℕ) FieldFault
 front_bytes len bytes = if nat_lt (length bytes) len then Err field.Short else Ok (take len bytes, drop len bytes)
 
--- the body of an entry of this kind, behind its length
+-- the body of an entry of this kind, after its length
 unfoldable pub front_body : Kind → List ℕ → Result (List ℕ × List ℕ) FieldFault
 front_body kind bytes = do
   n ← front_u16 bytes
@@ -50,7 +50,7 @@ front_entries (suc count) bytes = do
   others ← front_entries count first.1
   Ok (first.0 ∷ others.0, others.1)
 
--- what stands in a record before its entries, without the version
+-- what a record has before its entries, without the version
 unfoldable pub front_head : List ℕ → Result (RecordHead × List ℕ) FieldFault
 front_head bytes = do
   term ← front_number 1 greatest_number bytes
@@ -70,7 +70,7 @@ front_fields bytes = do
   entries ← front_entries head.0.count head.1
   Ok (record_with head.0 entries.0, entries.1)
 
--- a record whose fields were read, where nothing stands behind them
+-- a record whose fields were read, where nothing follows them
 abbrev pub ended : Result (Record × List ℕ) FieldFault → Result Record RecordFault
 ended (Ok (r, [])) = Ok r
 ended (Ok (r, b ∷ rest)) = Err Extra

@@ -33,7 +33,7 @@ pub enum JournalFault {
 
 /// Where a replica's records are kept over a crash (Raft, figure 2: stable storage is updated before an answer).
 pub trait Journal: Drop {
-    /// The records that were acknowledged, the first in front, where the journal tells them.
+    /// The records that were acknowledged, the first one first, where the journal reports them.
     ghost records: { Self → Option (List Record) };
 
     /// Why the journal has ended, where it has.

@@ -54,7 +54,7 @@ impl MemJournal {
         }
     }
 
-    /// The records that were acknowledged, the first in front.
+    /// The records that were acknowledged, the first one first.
     pub fn records(&self) -> &Records
         ensures told { result.now ≡ self.now.records }
         ensures holds { IsHistory self.now.records }

@@ -17,7 +17,7 @@ pub enum RecordFault {
     Short,
     /// A whole field is out of its range.
     Range,
-    /// Bytes stand after the last field.
+    /// There are bytes after the last field.
     Extra,
     /// Memory ran out, which says nothing of the bytes.
     Memory,

@@ -1,4 +1,4 @@
-/// What stands in a record before its entries.
+/// What a record has before its entries.
 #[derive(Clone, Copy)]
 pub(crate) struct RecordHead {
     pub(crate) term: u64,

@@ -12,12 +12,12 @@ pub fn what_is_read_is_spelled()
     ensures { WhatIsReadIsSpelled }
 {}
 
-/// Bytes after a record are told as Extra.
+/// The bytes of a record with others after them read as Extra.
 pub fn bytes_behind_are_extra()
     ensures { BytesBehindAreExtra }
 {}
 
-/// Extra is told of nothing else.
+/// Nothing else reads as Extra.
 pub fn extra_is_behind_a_record()
     ensures { ExtraIsBehindARecord }
 {}
@@ -37,7 +37,7 @@ pub fn version_is_the_first_byte()
     ensures { VersionIsTheFirstByte }
 {}
 
-/// A record that is cut short is told as Short, wherever it is cut.
+/// A record that is cut short reads as Short, wherever it is cut.
 pub fn prefixes_are_short()
     ensures { PrefixesAreShort }
 {}

@@ -17,7 +17,7 @@ use std::alloc::Global;
 
 /// The record that the bytes encode, all of the bytes; the fault is the first from left to right.
 ///
-/// Bytes that encode no record take no memory: their fault is told however little there is.
+/// Bytes that encode no record take no memory: their fault is reported however little there is.
 pub fn read_record(alloc: Global, bytes: &[u8]) -> Result<Record, RecordFault>
     ensures read { UnlessMemory is_memory result (result ≡ decode_record bytes.now) }
     ensures free { (fault : RecordFaultSpec) → decode_record bytes.now ≡ Err fault → result ≡ Err fault }

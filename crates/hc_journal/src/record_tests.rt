@@ -24,7 +24,7 @@ fn joined(alloc: Global, parts: &[&[u8]]) -> Result<Vec<u8>, AllocError> {
     Ok(out)
 }
 
-/// The record of term 1 and the vote 0 that has this entry, and how many entries before it still stand.
+/// The record of term 1 and the vote 0 that has this entry, and keeps so many entries before it.
 fn record_with(alloc: Global, keep: u64, stored: Stored) -> Result<Record, AllocError> {
     let mut entries = Vec::new(alloc);
     entries.push(stored)?;

@@ -15,7 +15,7 @@ use std::alloc::Global;
 /// The version of the layout with narrow entries.
 pub(crate) const RECORD_VERSION_1: u8 = 1;
 
-/// What stands in the place of the vote where there is none.
+/// The number in the place of the vote where there is none.
 pub(crate) const NO_VOTE: u8 = 255;
 
 /// The bytes of a record whose fields are in their ranges.
@@ -40,7 +40,7 @@ fn vote_number(vote: Option<u8>) -> u8
     vote.unwrap_or(NO_VOTE)
 }
 
-/// Appends what stands before the entries.
+/// Appends what comes before the entries.
 #[tactic(auto, unfolding(crate::specs::Record::head_bytes), using(std::proofs::Common::append_assoc))]
 fn push_head(out: &mut Vec<u8>, r: &Record) -> Result<(), NoMemory>
     requires { length r.now.entries ≤ most_entries }

@@ -10,7 +10,7 @@ use Rattle.hc_log.specs.Laws.{MayComeBehind, record_of}
 use Rattle.hc_log.proofs.Formed.{FollowEach-from_log}
 use Rattle.hc_log.proofs.Logs.{IsLog-limits}
 
--- the kept entries and those behind them are the whole log
+-- the kept entries and those after them are the whole log
 whole_log : (d e : State) (keep : ℕ) → MayComeBehind d e keep → take keep d.log ++ drop keep e.log ≡ e.log
 whole_log d e keep may = ap (λ (xs : List Stored). xs ++ drop keep e.log) may.front ∙ take-append-drop keep e.log
 

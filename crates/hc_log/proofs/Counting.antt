@@ -10,7 +10,7 @@ use Rattle.hc_log.specs.Ranges.{most_body_bytes}
 use Rattle.hc_log.specs.Log.{blank_of, last_term, requests_of, body_bytes_of, IsWithinLimits}
 use Rattle.hc_log.specs.Totals.{totals_of, totals_with}
 
--- two lists of entries, one behind the other
+-- two lists of entries, one after the other
 pub requests_of-append : (xs ys : List Stored) → requests_of (xs ++ ys) ≡ requests_of xs + requests_of ys
 unfolding requests_of
 requests_of-append xs ys = sum_by-append (λ s. cond (is_request s.entry.kind) 1 0) xs ys
@@ -58,7 +58,7 @@ pub totals_of_none : totals_of [] ≡ record { entries = 0; last_term = 0; reque
 unfolding requests_of body_bytes_of
 totals_of_none = refl
 
--- a front of a log is within the limits where the log is
+-- a prefix of a log is within the limits where the log is
 pub IsWithinLimits-front : (xs ys : List Stored) → IsWithinLimits (xs ++ ys) → IsWithinLimits xs
 IsWithinLimits-front xs ys within =
     record {

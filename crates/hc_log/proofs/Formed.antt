@@ -21,7 +21,7 @@ last_term-take : (log : List Stored) (i : ℕ) (d : Stored) → i < length log �
 last_term-take log i d h =
     ap last_term (take_more log i d h) ∙ last_term_more (take i log) (get_or log i d)
 
--- a request that stands in a log at a place
+-- a request that a log has at a place
 stands_at : (log : List Stored) (j i : ℕ) (d : Stored) (rid : Rid) → j < i → i ≤ length log → is_request (get_or log j d).entry.kind ≡ true → (get_or log j d).entry.rid ≡ rid
     → stands_in rid (take i log) ≡ true
 unfolding stands_in
@@ -31,7 +31,7 @@ stands_at log j i d rid before within asks named =
     let passes : asks_as rid (get_or log j d) ≡ true = rw (asks, named) (same_rid-same rid) in
     list_any_at (asks_as rid) (take i log) j d inside (rw same passes)
 
--- a request that stands at no place of the first entries
+-- a request that is at no place of the first entries
 stands_nowhere : (log : List Stored) (i : ℕ) (rid : Rid) → i ≤ length log → ((j : ℕ) (d : Stored) → j < i → asks_as rid (get_or log j d) ≡ false) → stands_in rid (take i log) ≡ false
 unfolding stands_in
 stands_nowhere log i rid within fails =

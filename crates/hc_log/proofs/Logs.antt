@@ -86,12 +86,12 @@ metas_of-slice log k most =
     ∙ sym (take-map bare most (drop k log))
     ∙ ap (take most) (sym (drop-map bare k log))
 
--- a request stands in two lists, one behind the other, where it stands in one of them
+-- a request is in two lists, one after the other, where it is in one of them
 pub stands_in_both : (rid : Rid) (xs ys : List Stored) → stands_in rid (xs ++ ys) ≡ (stands_in rid xs || stands_in rid ys)
 unfolding stands_in
 stands_in_both rid xs ys = list_any-append (asks_as rid) xs ys
 
--- some of the entries stand behind the kept ones
+-- some of the entries come after the kept ones
 pub partway-IsLog : (log entries : List Stored) (keep i : ℕ) → IsLog log → FollowEach (take keep log) entries → IsLog (take keep log ++ take i entries)
 partway-IsLog log entries keep i is_log each =
     IsLog-append (take keep log) (take i entries) (IsLog-take keep log is_log) (FollowEach-take (take keep log) entries i each)
@@ -115,7 +115,7 @@ is_some-position p (x ∷ xs) =
           rw f (sym (list_any_none p (x ∷ xs) (λ k d h. fails_before_first p (x ∷ xs) k d (omega arith))))
     ]
 
--- a request that has a place stands in the log, and one that has none doesn't
+-- a request that has a place is in the log, and one that has none isn't
 pub stands-from_None : (rid : Rid) (log : List Stored) → position (asks_as rid) log ≡ None → false ≡ stands_in rid log
 unfolding stands_in
 stands-from_None rid log none = ap is_some (sym none) ∙ is_some-position (asks_as rid) log

@@ -16,11 +16,11 @@ pub record State : Type 0 where
 abbrev pub begun : State
 begun = record { term = 0; vote = None; log = [] }
 
--- the log behind a record: the first entries that still stand, and the record's own
+-- the log after a record: the first entries, those that are kept, and the record's own
 abbrev pub log_behind : List Stored → Record → List Stored
 log_behind log r = take r.keep log ++ r.entries
 
--- the state behind a record
+-- the state after a record
 abbrev pub after : State → Record → State
 after d r = record { term = r.term; vote = r.vote; log = log_behind d.log r }
 

@@ -3,7 +3,7 @@ use Rattle.std.specs.Prelude.{ℕ, Bool, true, false, List, codes}
 use Rattle.hc_log.specs.declared.follow_fault.FollowFault.{FollowFault}
 use Rattle.hc_log.specs.declared.follow_fault.FollowFault.TheVariants.{Unfit, Memory}
 
--- whether a fault is a want of memory
+-- whether a fault is that memory ran out
 abbrev pub is_memory : FollowFault → Bool
 is_memory Unfit = false
 is_memory Memory = true

@@ -13,7 +13,7 @@ use Rattle.hc_log.specs.Durable.{State, after, replay, KeepsVote, IsNext, IsHist
 abbrev pub AreApart : Stored → Stored → Type 0
 AreApart a b = is_request a.entry.kind ≡ true → is_request b.entry.kind ≡ true → a.entry.rid ≢ b.entry.rid
 
--- a list of entries in range, whose terms never fall, in which no request stands twice, and which isn't too long
+-- a list of entries in range that isn't too long, whose terms never fall, with no request twice
 pub record IsFormed (log : List Stored) : Type 0 where
   pub stored : All IsStored log
   pub terms : IsNonDecreasingBy (λ s. s.entry.term) log
@@ -28,13 +28,13 @@ LogsAreFormed = (log : List Stored) → IsLog log ↔ IsFormed log
 abbrev pub FollowersMakeALog : Type 0
 FollowersMakeALog = (log entries : List Stored) → IsLog log → FollowEach log entries ↔ IsLog (log ++ entries)
 
--- a request that doesn't stand in a log, of no earlier term than its last entry's, may follow it where there is room
+-- a request that isn't in a log, of no earlier term than its last entry's, may follow it where there is room
 abbrev pub RequestsWithRoomFollow : Type 0
 RequestsWithRoomFollow =
     (log : List Stored) (s : Stored) → IsStored s → is_request s.entry.kind ≡ true → last_term log ≤ s.entry.term
     → stands_in s.entry.rid log ≡ false → has_room log s.body ≡ true → MayFollow log s
 
--- behind a valid state and a record that may be its next one there is a valid state
+-- after a valid state and a record that may be its next one there is a valid state
 abbrev pub RecordsKeepStatesValid : Type 0
 RecordsKeepStatesValid = (d : State) (r : Record) → IsValid d → IsNext d r → IsValid (after d r)
 
@@ -50,11 +50,11 @@ ReplaysGoOn = (records : List Record) (r : Record) → replay (records ++ r ∷ 
 abbrev pub HistoriesGoOn : Type 0
 HistoriesGoOn = (records : List Record) (r : Record) → IsHistory records → IsNext (replay records) r → IsHistory (records ++ r ∷ [])
 
--- the record of a state, of whose log the first entries stood before
+-- the record of a state, of whose log the first entries were there before
 abbrev pub record_of : State → ℕ → Record
 record_of e keep = record { term = e.term; vote = e.vote; keep = keep; entries = drop keep e.log }
 
--- a state may come behind another one: its term isn't lower, a vote of the term stays, the first entries still stand, and
+-- a state may come after another one: its term isn't lower, a vote of the term stays, the first entries are kept, and
 -- there are at most `most_entries` after them
 pub record MayComeBehind (d e : State) (keep : ℕ) : Type 0 where
   pub is_set : 1 ≤ e.term

@@ -13,7 +13,7 @@ use Rattle.hc_log.specs.Ranges.{IsStored, most_body_bytes, most_requests}
 abbrev pub blank_of : ℕ → Stored
 blank_of term = record { entry = blank_entry term; body = [] }
 
--- the entry at an index, counted from 1, with its body; behind the log there is a blank one of term 0
+-- the entry at an index, counted from 1, with its body; after the log there is a blank one of term 0
 abbrev pub stored_at : List Stored → ℕ → Stored
 stored_at log index = slice_index_or log (index - 1) (blank_of 0)
 
@@ -33,11 +33,11 @@ metas_of log = map (λ s. s.entry) log
 abbrev pub asks_as : Rid → Stored → Bool
 asks_as rid s = is_request s.entry.kind && same_rid rid s.entry.rid
 
--- whether the request with this id stands in a log
+-- whether the request with this id is in a log
 unfoldable pub stands_in : Rid → List Stored → Bool
 stands_in rid log = list_any (asks_as rid) log
 
--- the index at which it stands
+-- the index at which it is found
 unfoldable pub place_of : Rid → List Stored → Option ℕ
 place_of rid log = option_map (λ before. before + 1) (position (asks_as rid) log)
 

@@ -9,7 +9,7 @@ use Rattle.hc_log.specs.Log.{last_term, requests_of, body_bytes_of}
 abbrev pub totals_of : List Stored → Totals
 totals_of log = record { entries = length log; last_term = last_term log; requests = requests_of log; body_bytes = body_bytes_of log }
 
--- with one more entry behind it
+-- with one more entry after it
 abbrev pub totals_with : Totals → Stored → Totals
 totals_with t s =
     record {

@@ -70,7 +70,7 @@ fn is_within_limits(totals: Totals) -> bool
         && totals.body_bytes <= MOST_BODY_BYTES
 }
 
-/// Whether the request of an entry stands among these already.
+/// Whether the request of an entry is among these already.
 #[tactic(auto, using(crate::proofs::Logs::stands_in_both))]
 fn asks_again(kept: &[Stored], before: &[Stored], s: &Stored) -> bool
     ensures { result ≡ (is_request s.now.entry.kind && stands_in s.now.entry.rid (kept.now ++ before.now)) }

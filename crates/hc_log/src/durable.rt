@@ -110,8 +110,8 @@ impl Durable {
         self.whole
     }
 
-    /// Takes the record's term and vote, keeps the first entries that still stand, and puts the record's own after them.
-    /// After a want of memory some of this may have been done: the state isn't whole any more, and is to be dropped.
+    /// Takes the record's term and vote, keeps as many of the first entries as it says, and appends the record's own.
+    /// Where memory ran out some of this may have been done: the state isn't whole any more, and is to be dropped.
     pub fn follow(&mut self, r: &Record) -> Result<(), FollowFault>
         ensures state { OnOk result (self.new.state ≡ after self.old.state r.now) }
         ensures whole { OnOk result (self.new.whole ≡ self.old.whole) }

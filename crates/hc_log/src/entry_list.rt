@@ -15,7 +15,7 @@ fn asks_as(s: &Stored, rid: &Rid) -> bool
     is_request(s.entry.kind) && *rid == s.entry.rid
 }
 
-/// How many entries stand before the first that is of the request with this id.
+/// How many entries come before the first that is of the request with this id.
 pub(crate) fn position_of(entries: &[Stored], rid: &Rid) -> Option<usize>
     ensures { result ≡ position (asks_as rid.now) entries.now }
 {

@@ -2,8 +2,8 @@
 
 ghost use Rattle.hc_log.specs.Laws.{LogsAreFormed, FollowersMakeALog, RequestsWithRoomFollow, RecordsKeepStatesValid, HistoriesLeadToValidStates, ReplaysGoOn, HistoriesGoOn, ChangesAreRecords};
 
-/// The logs are the lists of entries in range whose terms never fall, in which no request stands twice, and which aren't too
-/// long.
+/// The logs are the lists of entries in range whose terms never fall, in which no request is found twice, and which aren't
+/// too long.
 pub fn logs_are_formed()
     ensures { LogsAreFormed }
 {}
@@ -18,7 +18,7 @@ pub fn requests_with_room_follow()
     ensures { RequestsWithRoomFollow }
 {}
 
-/// Behind a valid state and a record that may be its next one there is a valid state.
+/// After a valid state and a record that may be its next one there is a valid state.
 pub fn records_keep_states_valid()
     ensures { RecordsKeepStatesValid }
 {}

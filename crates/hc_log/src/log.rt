@@ -9,7 +9,7 @@ use std::alloc::Global;
 use std::marker::Model;
 
 /// The ordered entries with their bodies, from index 1 on (Raft, section 5.3). Each may follow those before it: terms never
-/// fall, no request stands twice, and there are at most `MOST_REQUESTS` requests with `MOST_BODY_BYTES` bytes of bodies.
+/// fall, no request is found twice, and there are at most `MOST_REQUESTS` requests with `MOST_BODY_BYTES` bytes of bodies.
 #[derive(Debug, Drop)]
 pub struct Log {
     alloc: Global,

@@ -8,7 +8,7 @@ pub struct Record {
     pub term: u64,
     /// The member that the replica voted for in this term.
     pub vote: Option<u8>,
-    /// How many entries of the log before still stand.
+    /// How many of the log's first entries are kept.
     pub keep: u64,
     /// The entries after those.
     pub entries: Entries,

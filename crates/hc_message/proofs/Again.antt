@@ -85,7 +85,7 @@ body_again : (kind : Kind) (body : List ℕ) → IsValid (RecoverBody kind body)
 unfolding front_body
 body_again kind body v = rw (kind_again 1 kind body v.0, le-leb (length body) most_body v.1) refl
 
--- the bytes of a valid message, and what stands behind them
+-- the bytes of a valid message, and what follows them
 reads : (m : Msg) (rest : List ℕ) → MayStandBehind rest m → FitsMessage m → IsValid m → decode_message (message_bytes m ++ rest) ≡ ended (Ok (m, rest))
 unfolding decode_message front_fields message_bytes
 reads (VoteReq term member last_index last_term) rest may fits v =
@@ -133,6 +133,6 @@ may_be_extra (AggCommit term index) rest has = tt
 may_be_extra (RecoverAsk member) rest has = tt
 may_be_extra (RecoverBody kind body) rest has = absurd has
 
--- bytes behind a valid message
+-- bytes after a valid message
 pub bytes_behind_are_extra : BytesBehindAreExtra
 bytes_behind_are_extra m b rest fits valid has = reads m (b ∷ rest) (may_be_extra m (b ∷ rest) has) fits valid

@@ -39,7 +39,7 @@ entries_again (e ∷ es) least most rest below chained =
     let regrouped : flat_map narrow_entry_bytes (e ∷ es) ++ rest ≡ narrow_entry_bytes e ++ (flat_map narrow_entry_bytes es ++ rest) = ap (λ (t : List ℕ). t ++ rest) (flat_map-cons narrow_entry_bytes e es) ∙ append_assoc (narrow_entry_bytes e) (flat_map narrow_entry_bytes es) rest in
     ap (front_entries (suc (length es)) least most) regrouped ∙ rw (entry_again least most e (flat_map narrow_entry_bytes es ++ rest) below chained.0, entries_again es e.term most rest below chained.1) refl
 
--- a list in order, in front of it a term that is at most each
+-- a list in order, and before it a term that is at most each
 rises-cons : (e : Entry) (es : List Entry) → All (λ f. e.term ≤ f.term) es → IsNonDecreasingBy (λ f. f.term) es → IsNonDecreasingBy (λ f. f.term) (e ∷ es)
 rises-cons e es low rises zero zero d le lt = omega arith
 rises-cons e es low rises zero (suc j) d le lt = low j d (omega arith)

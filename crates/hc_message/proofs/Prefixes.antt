@@ -202,7 +202,7 @@ prefix_short m (tag ∷ bytes) rest has read =
       | inr none ↦ inr none
     ]
 
--- where a prefix is shorter than the whole, something stands after it
+-- where a prefix is shorter than the whole, something follows it
 prefix_is_short : (m : Msg) (prefix rest : List ℕ) → HasEnd m → FitsMessage m → IsValid m → message_bytes m ≡ prefix ++ rest → length prefix < length (message_bytes m) → decode_message prefix ≡ Err Short
 prefix_is_short m prefix rest has fits valid same shorter =
     let read : decode_message (prefix ++ rest) ≡ Ok m = spelling_is_read m (prefix ++ rest) fits (record { valid = valid; same = sym same }) in

@@ -12,7 +12,7 @@ use Rattle.hc_message.specs.declared.field_fault.FieldFault.{FieldFault}
 use Rattle.hc_message.specs.declared.field_fault.FieldFault.TheVariants.{Short, Range}
 use Rattle.hc_message.specs.Fields.{◌>>=◌, front_byte, front_entry, front_flag, front_kind, front_number, front_replier, front_rid, front_rid_of_kind, front_small, front_u16, front_u32, front_u64, front_wide, within}
 
--- the reading of longer bytes, by that of their front
+-- the reading of longer bytes, by that of their prefix
 abbrev pub Stays : {A : Type 0} → Result (A × List ℕ) FieldFault → List ℕ → Result (A × List ℕ) FieldFault → Type 0
 Stays (Ok x) rest longer = longer ≡ Ok (x.0, x.1 ++ rest)
 Stays (Err Range) rest longer = longer ≡ Err Range

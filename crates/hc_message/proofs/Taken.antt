@@ -23,12 +23,12 @@ use Rattle.hc_message.proofs.Takes.{AreBytes-behind, Takes, Takes-behind, Takes-
 use Rattle.hc_message.proofs.FieldLaws.{flag_takes, kind_takes, number_takes, small_takes}
 use Rattle.hc_message.proofs.Ordered.{entries_take, ordered_chained}
 
--- nothing may stand behind a body, which goes to the end
+-- nothing may follow a body, which goes to the end
 abbrev pub MayStandBehind : List ℕ → Msg → Type 0
 MayStandBehind rest (RecoverBody kind body) = rest ≡ []
 MayStandBehind rest _ = Unit {0}
 
--- a message that was read from the bytes behind a tag
+-- a message that was read from the bytes after a tag
 record IsRead (tag : ℕ) (bytes : List ℕ) (x : Msg × List ℕ) : Type 0 where
   taken : Takes (tag ∷ bytes) (message_bytes x.0) x.1
   valid : IsValid x.0
@@ -83,18 +83,18 @@ vote_takes bytes x are e =
       behind = tt;
     })
 
--- a count that is let through has room behind the previous index
+-- a count that is let through has room after the previous index
 counted : (prev_index count n : ℕ) → prev_index ≤ greatest_number → count ≤ min most_entries (greatest_number - prev_index) → n ≡ count → (n ≤ most_entries) × (prev_index + n ≤ greatest_number)
 counted prev_index count n low high same = (omega arith, omega arith)
 
--- the fields of an Order, one behind the other
+-- the fields of an Order, one after the other
 order_parts : {bytes r1 r2 r3 r4 r5 r6 r7 r8 r9 : List ℕ} (term leader prev_index prev_term start commit : ℕ) (via : Bool) {count : ℕ} (es : List Entry) → Takes bytes (u64_bytes term) r1 → Takes r1 (leader ∷ []) r2 → Takes r2 (u64_bytes prev_index) r3 → Takes r3 (u64_bytes prev_term) r4 → Takes r4 (u64_bytes start) r5 → Takes r5 (u64_bytes commit) r6 → Takes r6 (flag_number via ∷ []) r7 → Takes r7 (count ∷ []) r8 → Takes r8 (flat_map narrow_entry_bytes es) r9 → length es ≡ count → Takes (3 ∷ bytes) (message_bytes (Order term leader prev_index prev_term start commit via es)) r9
 unfolding message_bytes
 order_parts {r6 = r6} {r9 = r9} term leader prev_index prev_term start commit via es term_is leader_is prev_index_is prev_term_is start_is commit_is via_is count_is entries_are same =
     let tail : Takes r6 (flag_number via ∷ length es ∷ flat_map narrow_entry_bytes es) r9 = rw same (Takes-both via_is (Takes-both count_is entries_are)) in
     Takes-both (Takes-both (Takes-both (Takes-both (Takes-both (Takes-behind 3 term_is) (Takes-both leader_is prev_index_is)) prev_term_is) start_is) commit_is) tail
 
--- what stands before the entries of an Order
+-- what comes before the entries of an Order
 record IsHead (bytes : List ℕ) (h : OrderHead) (rest : List ℕ) : Type 0 where
   ordering : IsOrdering h.term h.leader h.prev_index h.prev_term h.term_start h.commit
   counted : h.count ≤ min most_entries (greatest_number - h.prev_index)
@@ -196,7 +196,7 @@ ask_takes bytes x are e =
       behind = tt;
     })
 
--- nothing stands behind what goes to the end
+-- nothing follows what goes to the end
 Takes-all : (bytes : List ℕ) → AreBytes bytes → Takes bytes bytes []
 Takes-all bytes are = record { parts = sym (append-nil bytes); rest_are = λ i. omega arith }
 
@@ -300,7 +300,7 @@ each_tag P each none tag bytes =
 no_fields_are_extra : (tag : ℕ) (bytes : List ℕ) → front_fields tag bytes ≡ Err Extra → ⊥
 no_fields_are_extra = each_tag (λ r. r ≡ Err Extra → ⊥) fields_not_extra (λ e. cc)
 
--- what Extra is told of
+-- what reads as Extra: a message with a byte after it
 record IsBehind (r : Result (Msg × List ℕ) MsgFault) : Type 0 where
   message : Msg
   byte : ℕ
@@ -312,7 +312,7 @@ ended_extra (Ok (m, [])) not e = absurd cc
 ended_extra (Ok (m, b ∷ rest)) not e = record { message = m; byte = b; rest = rest; read = refl }
 ended_extra (Err fault) not e = absurd (not cc)
 
--- a message with something behind it says itself where it ends
+-- a message with something after it says itself where it ends
 has_end : (m : Msg) (b : ℕ) (rest : List ℕ) → MayStandBehind (b ∷ rest) m → HasEnd m
 has_end (VoteReq term member last_index last_term) b rest may = tt
 has_end (Vote term member granted) b rest may = tt
@@ -352,7 +352,7 @@ ended_memory (Ok (n, [])) e = absurd cc
 ended_memory (Ok (n, b ∷ rest)) e = absurd cc
 ended_memory (Err fault) e = cc
 
--- no bytes read as a want of memory
+-- no bytes read as a fault of memory
 pub no_bytes_want_memory : NoBytesWantMemory
 unfolding decode_message
 no_bytes_want_memory [] e = cc

@@ -1,4 +1,4 @@
--- What a reader takes from the front of bytes, and how readers one after the other take their fields.
+-- Which bytes a reader takes first, and how readers one after the other take their fields.
 use Rattle.std.proofs.Common.{◌≡◌, ℕ, suc, ◌+◌, Bool, true, false, cond, List, ◌∷◌, ◌++◌, drop, Result, Ok, Err, refl, sym, ap, ◌∙◌, append_assoc}
 use Rattle.std.proofs.lemmas.List.{get_or-drop}
 use Rattle.r2_base.specs.Numbers.{AreBytes}
@@ -49,7 +49,7 @@ Takes-then a x b y c p q =
       rest_are = q.rest_are;
     }
 
--- the same, and a byte in front
+-- the same, and then a byte before both
 pub Takes-both : {a x b y c : List ℕ} → Takes a x b → Takes b y c → Takes a (x ++ y) c
 Takes-both {a} {x} {b} {y} {c} p q = Takes-then a x b y c p q
 

@@ -1,4 +1,4 @@
--- Statements of answers that may be a want of memory.
+-- Statements of answers, where memory may run out.
 use Rattle.std.proofs.Common.{◌≡◌, Bool, true, false, Result, Ok, Err, sym}
 use Rattle.std.specs.Prelude.{MatchBool}
 use Rattle.r2_base.specs.Memory.{GivesUnlessMemory, UnlessMemory}

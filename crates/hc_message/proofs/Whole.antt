@@ -36,7 +36,7 @@ no_tag [] field.Short e = refl
 no_tag [] field.Range e = absurd cc
 no_tag (b ∷ bytes) f e = absurd cc
 
--- a tag and what stands after it
+-- a tag and what comes after it
 tagged : (bytes : List ℕ) (tag : ℕ) (fields : List ℕ) → front_byte bytes ≡ at tag fields → decode_message bytes ≡ ended (front_fields tag fields)
 unfolding decode_message
 tagged [] tag fields e = absurd cc

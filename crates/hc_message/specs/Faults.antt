@@ -10,7 +10,7 @@ abbrev pub msg_fault_of : FieldFault → MsgFault
 msg_fault_of field.Short = Short
 msg_fault_of field.Range = Range
 
--- whether a fault is a want of memory
+-- whether a fault is that memory ran out
 abbrev pub is_memory : MsgFault → Bool
 is_memory Short = false
 is_memory Tag = false
@@ -18,7 +18,7 @@ is_memory Range = false
 is_memory Extra = false
 is_memory Memory = true
 
--- why the bytes in front aren't a field
+-- why bytes don't begin with a field
 abbrev pub field_fault_text : FieldFault → List ℕ
 field_fault_text field.Short = codes "the bytes end within a field"
 field_fault_text field.Range = codes "a field is out of its range"

@@ -1,4 +1,4 @@
--- What the fields in front of bytes read as: each gives its value and the bytes behind it, or its fault.
+-- What the first fields of bytes read as: each gives its value and the bytes after it, or its fault.
 use Rattle.std.specs.Prelude.{◌≡◌, ℕ, ◌==◌, ◌&&◌, Bool, ◌||◌, if◌then◌else◌, List, [], ◌∷◌, length, drop, nat_le, nat_lt, Result, Ok, Err}
 use Rattle.byteorder.specs.Endian.{big_number}
 use Rattle.r2_base.specs.declared.rid.Rid.{Rid}

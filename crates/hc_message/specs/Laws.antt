@@ -37,12 +37,12 @@ abbrev pub HasEnd : Msg → Type 0
 HasEnd (RecoverBody kind body) = ⊥
 HasEnd _ = Unit {0}
 
--- a valid message's bytes with others behind them read as Extra
+-- a valid message's bytes with others after them read as Extra
 abbrev pub BytesBehindAreExtra : Type 0
 BytesBehindAreExtra =
     (m : Msg) (b : ℕ) (rest : List ℕ) → FitsMessage m → IsValid m → HasEnd m → decode_message (message_bytes m ++ b ∷ rest) ≡ Err Extra
 
--- the bytes are a valid message's with others behind them
+-- the bytes are a valid message's with others after them
 pub record HasMessageInFront (bytes : List ℕ) : Type 0 where
   pub message : Msg
   pub fits : FitsMessage message
@@ -56,7 +56,7 @@ pub record HasMessageInFront (bytes : List ℕ) : Type 0 where
 abbrev pub ExtraIsBehindAMessage : Type 0
 ExtraIsBehindAMessage = (bytes : List ℕ) → AreBytes bytes → decode_message bytes ≡ Err Extra → HasMessageInFront bytes
 
--- no bytes read as a want of memory
+-- no bytes read as a fault of memory
 abbrev pub NoBytesWantMemory : Type 0
 NoBytesWantMemory = (bytes : List ℕ) → decode_message bytes ≢ Err Memory
 
@@ -84,7 +84,7 @@ PrefixesAreShort =
     (m : Msg) (prefix rest : List ℕ) → FitsMessage m → IsValid m → message_bytes m ≡ prefix ++ rest → length prefix < needed_bytes m
     → decode_message prefix ≡ Err Short
 
--- bytes of which a field is out of its range stay so, whatever stands after them
+-- bytes of which a field is out of its range stay so, whatever follows them
 abbrev pub RangeStays : Type 0
 RangeStays = (bytes rest : List ℕ) → decode_message bytes ≡ Err Range → decode_message (bytes ++ rest) ≡ Err Range
 

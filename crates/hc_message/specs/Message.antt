@@ -1,4 +1,4 @@
--- The messages of the replicas: which are valid, and the bytes that spell each.
+-- The messages of the replicas: which are valid, and the bytes that encode each.
 use Rattle.std.specs.Prelude.{◌≡◌, ℕ, ◌+◌, ◌≤◌, Bool, List, [], ◌∷◌, ◌++◌, All, length}
 use Rattle.std.specs.List.{flat_map}
 use Rattle.std.specs.List.Sorted.{IsNonDecreasingBy}
@@ -9,7 +9,7 @@ use Rattle.hc_message.specs.declared.msg.Msg.{Msg}
 use Rattle.hc_message.specs.declared.msg.Msg.TheVariants.{VoteReq, Vote, Order, Ack, Nack, AggCommit, RecoverAsk, RecoverBody}
 use Rattle.hc_message.specs.Entry.{IsEntry, IsIndex, IsMember, IsTerm, narrow_entry_bytes, flag_number, kind_number}
 
--- the entries of an Order, behind the index and the term of the previous one, and up to its own term
+-- the entries of an Order, after the index and the term of the previous one, and up to its own term
 pub record AreOrdered (index least most : ℕ) (entries : List Entry) : Type 0 where
   pub count : length entries ≤ most_entries
   pub room : index + length entries ≤ greatest_number
@@ -18,7 +18,7 @@ pub record AreOrdered (index least most : ℕ) (entries : List Entry) : Type 0 w
   pub high : All (λ e. e.term ≤ most) entries
   pub never_fall : IsNonDecreasingBy (λ e. e.term) entries
 
--- the numbers of an Order in front of its entries
+-- the numbers of an Order before its entries
 pub record IsOrdering (term leader prev_index prev_term term_start commit : ℕ) : Type 0 where
   pub own : IsTerm term
   pub sender : IsMember leader

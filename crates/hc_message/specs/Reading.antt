@@ -32,7 +32,7 @@ front_entries (suc count) least most bytes = do
   others ← front_entries count first.0.term most first.1
   Ok (first.0 ∷ others.0, others.1)
 
--- the fields of each message, and the bytes behind them
+-- the fields of each message, and the bytes after them
 
 unfoldable pub front_vote_request : List ℕ → Result (Msg × List ℕ) FieldFault
 front_vote_request bytes = do
@@ -49,7 +49,7 @@ front_vote bytes = do
   granted ← front_flag member.1
   Ok (Vote term.0 member.0 granted.0, granted.1)
 
--- what stands in an Order before its entries; their count is at most what there is room for after the previous index
+-- what an Order has before its entries; their count is at most what there is room for after the previous index
 unfoldable pub front_order_head : List ℕ → Result (OrderHead × List ℕ) FieldFault
 front_order_head bytes = do
   term ← front_term bytes
@@ -116,7 +116,7 @@ front_body bytes = do
   kind ← front_kind 1 bytes
   if nat_le (length kind.1) most_body then Ok (RecoverBody kind.0 kind.1, []) else Err field.Range
 
--- the fields behind the tag, by the tag
+-- the fields after the tag, by the tag
 unfoldable pub front_fields : ℕ → List ℕ → Result (Msg × List ℕ) MsgFault
 front_fields tag bytes =
     if tag == 1 then of_fields msg_fault_of (front_vote_request bytes)
@@ -129,7 +129,7 @@ front_fields tag bytes =
     else (if tag == 8 then of_fields msg_fault_of (front_body bytes)
     else Err Tag)))))))
 
--- a message whose fields were read, where nothing stands behind them
+-- a message whose fields were read, where nothing follows them
 abbrev pub ended : Result (Msg × List ℕ) MsgFault → Result Msg MsgFault
 ended (Ok (m, [])) = Ok m
 ended (Ok (m, b ∷ rest)) = Err Extra

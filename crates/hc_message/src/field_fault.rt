@@ -4,7 +4,7 @@ ghost use Rattle.hc_message.specs.Faults.{field_fault_text};
 use std::error::Error;
 use std::fmt;
 
-/// Why the bytes in front aren't a field.
+/// Why bytes don't begin with a field.
 #[derive(Clone, Copy, Debug, PartialEq, Eq)]
 pub enum FieldFault {
     /// The bytes end within the field.

@@ -12,12 +12,12 @@ pub fn what_is_read_is_spelled()
     ensures { WhatIsReadIsSpelled }
 {}
 
-/// Bytes after a valid message are told as Extra; a body goes to the end, so none stand after it.
+/// A valid message's bytes with others after them read as Extra; a body goes to the end, so none come after it.
 pub fn bytes_behind_are_extra()
     ensures { BytesBehindAreExtra }
 {}
 
-/// Extra is told of nothing else.
+/// Nothing else reads as Extra.
 pub fn extra_is_behind_a_message()
     ensures { ExtraIsBehindAMessage }
 {}
@@ -37,7 +37,7 @@ pub fn tag_is_the_first_byte()
     ensures { TagIsTheFirstByte }
 {}
 
-/// A message that is cut short is told as Short. A body goes to the end, so it is cut short only before its kind.
+/// A message that is cut short reads as Short. A body goes to the end, so it is cut short only before its kind.
 pub fn prefixes_are_short()
     ensures { PrefixesAreShort }
 {}

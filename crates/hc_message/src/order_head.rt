@@ -1,6 +1,6 @@
 ghost use Rattle.std.specs.Prelude.{◌≡◌, max};
 
-/// What stands in an Order before its entries.
+/// What an Order has before its entries.
 #[derive(Clone, Copy)]
 pub(crate) struct OrderHead {
     pub(crate) term: u64,

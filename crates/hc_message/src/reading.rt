@@ -18,7 +18,7 @@ use std::alloc::Global;
 
 /// The message that the bytes encode, all of the bytes; the fault is the first from left to right.
 ///
-/// Bytes that encode no message take no memory: their fault is told however little there is.
+/// Bytes that encode no message take no memory: their fault is reported however little there is.
 pub fn read(alloc: Global, bytes: &[u8]) -> Result<Msg, MsgFault>
     ensures read { UnlessMemory is_memory result (result ≡ decode_message bytes.now) }
     ensures free { (fault : MsgFaultSpec) → decode_message bytes.now ≡ Err fault → result ≡ Err fault }

@@ -105,7 +105,7 @@ fails_elsewhere rid pool i k d sound h l apart named =
           ]
     ]
 
--- no id stands twice, so taking that request out leaves the others
+-- no id is found twice, so taking that request out leaves the others
 pub without-at : (rid : Rid) (pool : List Request) (i : ℕ) → IsPool pool → position (has_rid rid) pool ≡ Some i → remove pool i ≡ without rid pool
 unfolding without
 without-at rid [] i sound e = cc
@@ -116,7 +116,7 @@ without-at rid (x ∷ xs) i sound e =
     let read : get_or (x ∷ xs) i x ≡ get_or (x ∷ xs) i d = get_or_default (x ∷ xs) i x d there.0 in
     fails_elsewhere rid (x ∷ xs) i k d sound there.0 h apart (named ∙ ap (λ (r : Request). r.rid) read)))
 
--- a new id stands at no place
+-- a new id is found at no place
 pub new_id : (pool : List Request) (r : Request) → waits_in r.rid pool ≡ false → (k : ℕ) (d : Request) → k < length pool → (get_or pool k d).rid ≢ r.rid
 unfolding waits_in
 new_id pool r new k d h e =

@@ -1,4 +1,4 @@
--- What a pool holds: a list of requests, the one put first in front.
+-- What a pool holds: a list of requests, in the order in which they were put.
 use Rattle.std.specs.Prelude.{◌≡◌, ◌≢◌, ◌≤◌, ℕ, Bool, true, not, List, [], ◌∷◌, length, Option, Some, None, filter, All, AllPairs}
 use Rattle.std.specs.List.{find, list_any}
 use Rattle.r2_base.specs.declared.rid.Rid.{Rid}
@@ -37,7 +37,7 @@ pub record MayWait (r : Request) : Type 0 where
   pub asks : is_request r.kind ≡ true
   pub body : length r.body ≤ most_body
 
--- what a pool may hold: each request may wait, and no id stands twice
+-- what a pool may hold: each request may wait, and no id is found twice
 pub record IsPool (pool : List Request) : Type 0 where
   pub requests : All MayWait pool
   pub ids : AllPairs (λ a b. a.rid ≢ b.rid) pool

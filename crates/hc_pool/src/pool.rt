@@ -11,8 +11,9 @@ use std::marker::Model;
 /// The greatest number of waiting requests to which a client's request is added.
 pub const MOST_POOLED: usize = 4_096;
 
-/// The requests that came and aren't ordered yet, the one put first in front (HovercRaft, on separating the replication of
-/// requests from their order). Each is a Write or a Read, its body has at most `MOST_BODY` bytes, and no request id stands twice.
+/// The requests that came and aren't ordered yet, the one put first at the beginning (HovercRaft, on separating the
+/// replication of requests from their order). Each is a Write or a Read, its body has at most `MOST_BODY` bytes, and no
+/// request id is held twice.
 #[derive(Debug, Drop)]
 pub struct Pool {
     requests: Vec<Request>,

@@ -176,7 +176,7 @@ served_short contents kind body all short = executed_short contents kind (comman
 pub no_values : AreShort finite.empty
 no_values key value e = let none = finite.get-empty {K = List ℕ} {X = List ℕ} R key in cc
 
--- the index and the status stand before the value
+-- the index and the status come before the value
 pub length-payload_of : (index status : ℕ) (value : List ℕ) → length (payload_of index status value) ≡ length value + 9
 unfolding payload_of
 length-payload_of index status value =
@@ -193,7 +193,7 @@ entry_short contents Blank body all short = all
 entry_short contents Write body all short = (served_short contents Write body all short).contents
 entry_short contents Read body all short = (served_short contents Read body all short).contents
 
--- of a log with one entry more in front
+-- of a log that begins with one entry more
 first_short : (o : Operation) (log : List Operation) → HasShortBodies (o ∷ log) → length o.body ≤ most_body
 first_short o log h = h 0 o (omega arith)
 

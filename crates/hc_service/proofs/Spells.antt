@@ -1,4 +1,4 @@
--- A body is read as a command exactly where it spells it.
+-- A body is read as a command exactly where it encodes it.
 use Rattle.std.proofs.Common.{◌≡◌, ℕ, zero, suc, ◌<◌, ◌^◌, Bool, true, false, List, [], ◌∷◌, ◌++◌, length, take, drop, refl, sym, ap, subst, ◌∙◌, arith, append-nil, length-append, if◌then◌else◌}
 use Rattle.std.specs.Prelude.{Option, Some, None, nat_le, All, ◌==◌, option_and_then}
 use Rattle.std.specs.Int.{byte_at}
@@ -15,7 +15,7 @@ use Rattle.hc_service.specs.Laws.{SpellingIsRead, WhatIsReadIsSpelled}
 two_bytes_of : (n : ℕ) → n < 2 ^ 16 → two_bytes (byte_at 1 n) (byte_at 0 n) ≡ n
 two_bytes_of n fits = omega arith
 
--- a field is read, whatever stands behind it
+-- a field is read, whatever follows it
 sized-read : (field rest : List ℕ) → length field < 2 ^ 16 → sized_field (sized field ++ rest) ≡ Some (field, rest)
 unfolding u16_bytes
 sized-read field rest fits =
@@ -60,7 +60,7 @@ All-drop zero xs small = small
 All-drop (suc n) [] small = small
 All-drop (suc n) (x ∷ xs) small = All-drop n xs (All-tail (λ b. b < 256) x xs small)
 
--- so many bytes, and those behind them
+-- so many bytes, and those after them
 abbrev cut : ℕ → List ℕ → Option (List ℕ × List ℕ)
 cut n bytes = Some (take n bytes, drop n bytes)
 

@@ -1,4 +1,4 @@
--- Replies stay, whatever entries come behind.
+-- Replies stay unchanged, whatever entries come after.
 use Rattle.std.proofs.Common.{◌≡◌, ℕ, zero, suc, ◌<◌, List, [], ◌∷◌, ◌++◌, length, take, refl, ap, ◌∙◌, arith}
 use Rattle.std.specs.Prelude.{slice_get, option_and_then}
 use Rattle.std.specs.FinMap as map

@@ -14,7 +14,7 @@ meant (Cas key old new) = command.Cas key.now old.now new.now
 meant (Scan key limit) = command.Scan key.now limit
 meant Count = command.Count
 
--- what was read, or that the body spells no command
+-- what was read, or that the body encodes no command
 abbrev pub read_as : Option Asked → Option command.Command
 read_as None = None
 read_as (Some asked) = Some (meant asked)

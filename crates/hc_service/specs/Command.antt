@@ -1,4 +1,4 @@
--- The commands of the key-value service, and the bodies that spell them.
+-- The commands of the key-value service, and the bodies that encode them.
 use Rattle.std.specs.Prelude.{ℕ, ◌+◌, ◌*◌, ◌^◌, ◌==◌, if◌then◌else◌, nat_le, List, [], ◌∷◌, length, take, drop, Option, Some, None, option_and_then}
 
 -- what a request asks for
@@ -39,11 +39,11 @@ count_tag = 0x4E
 abbrev pub field_limit : ℕ
 field_limit = 2 ^ 16
 
--- the number that two bytes spell, the greater first
+-- the number that two bytes encode, the greater first
 abbrev pub two_bytes : ℕ → ℕ → ℕ
 two_bytes high low = 256 * high + low
 
--- a field with its length in two bytes before it, and the bytes behind it
+-- a field with its length in two bytes before it, and the bytes after it
 abbrev pub sized_field : List ℕ → Option (List ℕ × List ℕ)
 sized_field (high ∷ low ∷ rest) = if nat_le (two_bytes high low) (length rest) then Some (take (two_bytes high low) rest, drop (two_bytes high low) rest) else None
 sized_field _ = None
@@ -80,7 +80,7 @@ abbrev pub count_command : List ℕ → Option Command
 count_command [] = Some Count
 count_command (_ ∷ _) = None
 
--- what stands after the first byte, by that byte
+-- what comes after the first byte, by that byte
 abbrev pub tagged_command : ℕ → List ℕ → Option Command
 tagged_command tag rest =
     if tag == get_tag then option_and_then get_command (sized_field rest)
@@ -91,7 +91,7 @@ tagged_command tag rest =
     else if tag == count_tag then count_command rest
     else None
 
--- the command that a body spells
+-- the command that a body encodes
 unfoldable pub command_of : List ℕ → Option Command
 command_of [] = None
 command_of (tag ∷ rest) = tagged_command tag rest

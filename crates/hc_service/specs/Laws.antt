@@ -27,7 +27,7 @@ StaysWithinItsSize =
 abbrev pub LimitsAreReached : Type 0
 LimitsAreReached = (key value : List ℕ) → StoreIsFull key value × ScanIsFull key value
 
--- the bytes that spell a command are read as that command
+-- the bytes that encode a command are read as that command
 abbrev pub SpellingIsRead : Type 0
 SpellingIsRead = (command : Command) → FitsCommand command → command_of (spelling command) ≡ Some command
 
@@ -45,11 +45,11 @@ pub record IsScan (contents : Contents) (key : List ℕ) (limit : ℕ) (given le
   pub most : (next : List ℕ × List ℕ) (more : List (List ℕ × List ℕ)) → left ≡ next ∷ more → length given < limit
       → most_scanned < length (flat_map pair_bytes given) + length (pair_bytes next)
 
--- a scan gives the longest front that its limits allow
+-- a scan gives the longest prefix that its limits allow
 abbrev pub ScanIsLongestFront : Type 0
 ScanIsLongestFront =
     (contents : Contents) (key : List ℕ) (limit : ℕ) → (given : List (List ℕ × List ℕ)) × (left : List (List ℕ × List ℕ)) × IsScan contents key limit given left
 
--- the reply to an entry stays what it is, whatever entries come behind it
+-- the reply to an entry stays what it is, whatever entries come after it
 abbrev pub RepliesStand : Type 0
 RepliesStand = (log more : List Operation) (index : ℕ) → index ≤ length log → reply_at (log ++ more) index ≡ reply_at log index

@@ -34,7 +34,7 @@ absent = 1
 abbrev pub different : ℕ
 different = 2
 
--- of one whose body spells no command
+-- of one whose body encodes no command
 abbrev pub malformed : ℕ
 malformed = 3
 

@@ -1,4 +1,4 @@
--- The bytes that spell a command.
+-- The bytes that encode a command.
 use Rattle.std.specs.Prelude.{ℕ, ◌<◌, List, [], ◌∷◌, ◌++◌, length}
 use Rattle.r2_base.specs.Numbers.{u16_bytes}
 use Rattle.hc_service.specs.Command.{Command, Get, Put, Del, Cas, Scan, Count, get_tag, put_tag, del_tag, cas_tag, scan_tag, count_tag, field_limit}

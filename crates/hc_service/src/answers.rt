@@ -20,7 +20,7 @@ const ABSENT: u8 = 1;
 /// The present value is another one.
 const DIFFERENT: u8 = 2;
 
-/// The body spells no command.
+/// The body encodes no command.
 const MALFORMED: u8 = 3;
 
 /// A request to read asks for a change.

@@ -1,4 +1,4 @@
-/// A command that a body spells, whose bytes stay in the body.
+/// A command that a body encodes, whose bytes stay in the body.
 #[derive(Clone, Copy, Debug)]
 pub(crate) enum Asked<'a> {
     Get {

@@ -22,7 +22,7 @@ const SCAN_TAG: u8 = 0x53;
 /// The first byte of a body that counts the pairs, the letter N.
 const COUNT_TAG: u8 = 0x4E;
 
-/// A field with its length in two bytes before it, and the bytes behind it.
+/// A field with its length in two bytes before it, and the bytes after it.
 fn sized_field(bytes: &[u8]) -> Option<(&[u8], &[u8])>
     ensures { fields result ≡ sized_field bytes.now }
 {
@@ -95,7 +95,7 @@ fn count_command(rest: &[u8]) -> Option<Asked<'_>>
     }
 }
 
-/// The command that a body spells.
+/// The command that a body encodes.
 #[tactic(auto, unfolding(crate::specs::Command::command_of))]
 pub(crate) fn read_command(body: &[u8]) -> Option<Asked<'_>>
     ensures { read_as result ≡ command_of body.now }

@@ -34,7 +34,7 @@ pub fn stays_within_its_size()
     ensures { StaysWithinItsSize }
 {}
 
-/// The bytes that spell a command are read as that command.
+/// The bytes that encode a command are read as that command.
 pub fn a_spelling_is_read()
     ensures { SpellingIsRead }
 {}
@@ -44,12 +44,12 @@ pub fn what_is_read_is_spelled()
     ensures { WhatIsReadIsSpelled }
 {}
 
-/// A scan gives the longest front of the pairs from its key on that its limits allow.
+/// A scan gives the longest prefix of the pairs from its key on that its limits allow.
 pub fn a_scan_is_the_longest_front()
     ensures { ScanIsLongestFront }
 {}
 
-/// The reply to an entry stays what it is, whatever entries come behind it.
+/// The reply to an entry stays what it is, whatever entries come after it.
 pub fn replies_stand()
     ensures { RepliesStand }
 {}

@@ -10,7 +10,7 @@ use std::alloc::Global;
 /// A key-value store as one thread would run it: a finite map from byte lists to byte lists, and how many requests to
 /// write it has executed and how many to read it has let in.
 ///
-/// A body spells one command. Lengths and limits have two bytes, the greater first; a value to be set goes to the end.
+/// A body encodes one command. Lengths and limits have two bytes, the greater first; a value to be set goes to the end.
 ///
 /// | command | body | reply |
 /// |---|---|---|
@@ -21,7 +21,7 @@ use std::alloc::Global;
 /// | scan | `S`, length, key, limit | 0 with the pairs from the key on, in the order of bytes, as many as the limit and 65,527 bytes allow |
 /// | count | `N` | 0 with the number of pairs in eight bytes |
 ///
-/// The other statuses change nothing: 3, the body spells no command; 4, a request to read asks for a change; 5, keys and
+/// The other statuses change nothing: 3, the body encodes no command; 4, a request to read asks for a change; 5, keys and
 /// values would have more than 1,073,741,824 bytes together. They are tried in the order 3, 4, then 1 and 2, then 5.
 pub trait Service: Sync + Drop {
     /// The leave to execute one request to read, which was counted.

@@ -24,7 +24,7 @@ fn served<V: Service>(
     }
 }
 
-/// Whether each row in turn gets the status and the value that stand in it.
+/// Whether each row in turn gets the status and the value that it names.
 fn are_right<V: Service>(
     service: &mut V,
     alloc: Global,

@@ -55,7 +55,7 @@ no_cut text front rest none split = split-none 44 text front rest (λ k inside. 
 
 -- ---- the texts of several addresses
 
--- a comma behind each
+-- a comma after each
 abbrev pub before : List Addr → List ℕ
 before [] = []
 before (a ∷ rest) = addr_text a ++ 44 ∷ before rest

@@ -83,7 +83,7 @@ mode_cut read Q text s = spaced_split text s (mode_has_no_space read s.word s.fi
 
 -- ---- the first word of a line
 
--- the word of a command, and what stands behind it
+-- the word of a command, and what comes after it
 abbrev pub verb_of : Command → List ℕ
 verb_of (Get key) = codes "get"
 verb_of (Put key value) = codes "put"
@@ -132,7 +132,7 @@ scan_has_no_space = four 115 99 97 110 (λ e. absurd (omega (arith, e))) (λ e. 
 raw_has_no_space : NoSpace (codes "raw")
 raw_has_no_space = three 114 97 119 (λ e. absurd (omega (arith, e))) (λ e. absurd (omega (arith, e))) (λ e. absurd (omega (arith, e)))
 
--- a line is cut behind its first word
+-- a line is cut after its first word
 cut_at : (verb : List ℕ) (Q : List ℕ → Type 0) (line : List ℕ) (s : Spaced (Is verb) Q line) → NoSpace verb → IsSplit 32 line s.word s.rest
 cut_at verb Q line s none = spaced_split line s (subst NoSpace (sym s.first) none)
 
@@ -143,7 +143,7 @@ HasCut line = (front : List ℕ) × (more : List ℕ) × IsSplit 32 line front m
 has_cut : (verb : List ℕ) (Q : List ℕ → Type 0) (line : List ℕ) → NoSpace verb → Spaced (Is verb) Q line → HasCut line
 has_cut verb Q line none s = (s.word, s.rest, cut_at verb Q line s none)
 
--- a command's line is cut behind its first word, or it is `count`
+-- a command's line is cut after its first word, or it is `count`
 command_cut : (line : List ℕ) (command : Command) → Says command line → HasCut line ⊎ (command ≡ Count)
 command_cut line (Get key) s = inl (has_cut (codes "get") (Texts (Get key)) line get_has_no_space s)
 command_cut line (Put key value) s = inl (has_cut (codes "put") (Texts (Put key value)) line put_has_no_space s)
@@ -309,7 +309,7 @@ other_only word rest call get put del cas scan raw (inl says) = by says.command 
     by (Scan key limit) verb texts = scan verb
     by Count verb texts = texts
 
--- ---- a body that is spelled of the fields that were read
+-- ---- a body that encodes the fields that were read
 
 pub put_is : (body a b key value : List ℕ) → body ≡ spelling (Put a b) → a ≡ key → b ≡ value → call_with false body ≡ call_of (Put key value)
 put_is body a b key value is same_key same_value = ap (call_with false) (is ∙ (λ i. spelling (Put (same_key i) (same_value i))))

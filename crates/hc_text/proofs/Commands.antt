@@ -80,7 +80,7 @@ not_outside r m only is =
     let at = subst (λ (x : Result Meant TextFault). MatchResult x (λ x. x ≡ m) (λ e. e ≡ Memory)) is only in
     cc at
 
--- the first word tells the meanings apart, by its third letter
+-- the first words differ by their third letter
 abbrev letter : List ℕ → ℕ
 letter text = get_or text 2 0
 

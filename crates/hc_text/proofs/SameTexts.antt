@@ -40,7 +40,7 @@ same_split byte text front rest front' rest' one other =
     let cut' = split-only byte (length front) text front' rest' before here other in
     (sym cut.0 ∙ cut'.0, sym cut.1 ∙ cut'.1)
 
--- numbers below 256 that end at the same byte of a text are the same, and so is what stands behind
+-- numbers below 256 that end at the same byte of a text are the same, and so is what follows
 same_octet : (byte m n : ℕ) (text rest rest' : List ℕ) → is_ascii_digit byte ≡ false → m < 256 → n < 256 → text ≡ decimal m ++ byte ∷ rest → text ≡ decimal n ++ byte ∷ rest'
     → (m ≡ n) × (rest ≡ rest')
 same_octet byte m n text rest rest' other fits fits' is is' =

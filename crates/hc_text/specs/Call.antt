@@ -17,7 +17,7 @@ pub record IsPlainText (value text : List ℕ) : Type 0 where
   pub printing : All IsPrinting text
   pub unmarked : (rest : List ℕ) → text ≢ codes "x:" ++ rest
 
--- a value in hexadecimal of either case behind `x:`, with digits or none
+-- a value in hexadecimal of either case after `x:`, with digits or none
 pub record IsHexText (value text : List ℕ) : Type 0 where
   pub digits : List ℕ
   pub marked : text ≡ codes "x:" ++ digits
@@ -62,7 +62,7 @@ is_reading (Cas key old new) = false
 is_reading (Scan key limit) = true
 is_reading Count = true
 
--- the call of a command: its body is the spelling that the service reads
+-- the call of a command: its body is the encoding that the service reads
 abbrev pub call_of : Command → Call
 call_of command = record { read = is_reading command; body = spelling command }
 

@@ -38,7 +38,7 @@ pub record SomeMeanNothing : Type 0 where
   pub unknown_option : MeanNothing (codes "server" ∷ codes "--listen" ∷ codes "10.0.0.1:9000" ∷ codes "--help" ∷ [])
   pub without_name : MeanNothing (codes "server" ∷ codes "10.0.0.1:9000" ∷ [])
 
--- a value behind a space or behind `=`, and the text of an option that is left out
+-- a value after a space or after `=`, and the text of an option that is left out
 pub record SomeAreTaken : Type 0 where
   pub spaced : AreTaken server_command (codes "server" ∷ codes "--listen" ∷ codes "10.0.0.1:9000" ∷ [])
   pub spaced_text : first_of (codes "listen") (rows_of_words server_command (codes "server" ∷ codes "--listen" ∷ codes "10.0.0.1:9000" ∷ [])) ≡ Some (codes "10.0.0.1:9000")

@@ -45,7 +45,7 @@ pub record IsNumberText (least most n : ℕ) (text : List ℕ) : Type 0 where
   pub to_most : n ≤ most
   pub spelled : text ≡ decimal n
 
--- `clap` takes the words behind the first as options of the command
+-- `clap` takes the words after the first as options of the command
 unfoldable pub AreTaken : App → List (List ℕ) → Type 0
 AreTaken command words = fault_of command words ≡ []
 

@@ -40,7 +40,7 @@ fn end_list(addrs: Vec<Addr>, last: &[u8]) -> Result<Addrs, TextFault>
     Ok(Addrs::from_vec(addrs))
 }
 
-/// Appends the address that the text names, which may not stand there yet.
+/// Appends the address that the text names, which may not be in the list yet.
 fn push_addr(addrs: &mut Vec<Addr>, text: &[u8]) -> Result<(), TextFault>
     ensures found { OnOk result ((a : AddrSpec) × IsAddrText a text.now × All (λ b. b ≢ a) addrs.old.items × (addrs.new.items ≡ addrs.old.items ++ a ∷ [])) }
     ensures only { (a : AddrSpec) → IsAddrText a text.now → All (λ b. b ≢ a) addrs.old.items

@@ -14,7 +14,7 @@ use std::alloc::Global;
 /// `raw w B`, with one space between words.
 ///
 /// A value is printing bytes that don't begin with `x:`, or `x:` and hexadecimal digits of either case. The body of
-/// `raw` is the value itself; that of another call is the service's spelling of the command.
+/// `raw` is the value itself; that of another call is the service's encoding of the command.
 pub fn client_line(alloc: Global, line: &[u8]) -> Result<Call, TextFault>
     ensures found { IfOk result (λ call. IsCallLine line.now call) }
     ensures only { (call : CallSpec) → IsCallLine line.now call → MatchResult result (λ r. r ≡ call) (λ e. e ≡ TextFault.Memory) }

@@ -53,7 +53,7 @@ pub(crate) fn with<'a>(command: Command<'a>, option: Arg<'a>) -> Result<Command<
     Ok(command.arg(option)?)
 }
 
-/// The options that the words behind the first give to the command.
+/// The options that the words after the first give to the command.
 #[tactic(auto, unfolding(crate::specs::Options::AreTaken, crate::specs::Options::rows_of_words))]
 pub(crate) fn parse<'a>(
     command: Command<'a>,

@@ -10,7 +10,7 @@ use std::alloc::Global;
 /// The greatest length of a key or of an old value.
 const MOST_SIZED: usize = 65_535;
 
-/// The value of a text: its bytes as they are, or those that it gives in hexadecimal behind `x:`.
+/// The value of a text: its bytes as they are, or those that it gives in hexadecimal after `x:`.
 pub(crate) fn read_value(alloc: Global, text: &[u8]) -> Result<Bytes, TextFault>
     ensures found { IfOk result (λ v. IsValueText v text.now) }
     ensures only { (value : List ℕ) → IsValueText value text.now → MatchResult result (λ v. v ≡ value) (λ e. e ≡ TextFault.Memory) }
@@ -43,7 +43,7 @@ pub(crate) fn read_sized(alloc: Global, text: &[u8]) -> Result<Bytes, TextFault>
     Ok(value)
 }
 
-/// The text behind this front.
+/// The text after this prefix.
 fn behind<'a>(text: &'a [u8], front: &[u8]) -> Option<&'a [u8]>
     ensures found { IfSome result (λ r. text.now ≡ front.now ++ r.now) }
     ensures only { (rest : List ℕ) → text.now ≡ front.now ++ rest → IsSomeAnd result (λ r. r.now ≡ rest) }

@@ -73,7 +73,7 @@ in_acked a (x ∷ acks) (inl e) =
     subst (λ (y : Ack). a.index ≤ acked (y ∷ acks) a.term a.member) e (rw (self a.term) (rw (self a.member) (omega arith)))
 in_acked a (x ∷ acks) (inr h) = omega (arith, in_acked a acks h, acked_more x acks a.term a.member)
 
--- what holds of both an acknowledgement and what stood before
+-- what holds of both an acknowledgement and what was there before
 pub acked_by : (P : ℕ → Type 0) (a : Ack) (acks : List Ack) (t v : ℕ) → (t ≡ a.term → v ≡ a.member → P (max a.index (acked acks t v))) → P (acked acks t v) → P (acked (a ∷ acks) t v)
 acked_by P a acks t v new old = by (t == a.term) (v == a.member) refl refl
   where
@@ -256,7 +256,7 @@ module _ (w : ProtocolState) (k : Kept w) where
   none_shared : (m : ℕ) (xs ys : List Entry) → m ≡ 0 → Share m xs ys
   none_shared m xs ys e = subst (λ (n : ℕ). Share n xs ys) (sym e) (share_none xs ys)
 
-  -- a backer's term isn't behind what it backs
+  -- a backer's term isn't lower than the term of what it backs
   backer_old : (t m v : ℕ) → backs w.winner w.acks t m v ≡ true → 0 < m → t ≤ w.term v
   backer_old t m v h l = by (backs_cases w.winner w.acks t m v h)
     where

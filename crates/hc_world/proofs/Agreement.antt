@@ -1,4 +1,4 @@
--- The agreed list: committed fronts are fronts of one list, which only grows.
+-- The agreed list: committed prefixes are prefixes of one list, which only grows.
 use Rattle.std.proofs.Common.{◌≡◌, ℕ, zero, suc, ◌<◌, ◌≤◌, ◌⊎◌, inl, inr, max, Bool, true, false, ◌==◌, ◌&&◌, nat_le, if◌then◌else◌, List, [], length, take, Some, refl, sym, ap, subst, ◌∙◌, arith}
 use Rattle.std.proofs.lemmas.Bool.{and_parts, eqb-true, true≢false}
 use Rattle.r2_base.specs.declared.entry.Entry.{Entry}
@@ -110,7 +110,7 @@ module _ (w : ProtocolState) (k : Kept w) where
           order (inl h) = let low : t < u = grind (arith, nat_tests, e, h) in absurd (omega (arith, later_longer t m u m c d low))
           order (inr h) = absurd (omega (arith, later_longer u m t m d c h))
 
-  -- of two committed fronts the shorter is in front of the longer
+  -- of two committed prefixes the shorter is a prefix of the longer
   pub fronts_agree : (t m u n : ℕ) → Committed w t m → Committed w u n → m ≤ n → Share m (w.book u) (w.book t)
   fronts_agree t m u n c d h = by (same_or_not t u)
     where
@@ -190,7 +190,7 @@ module _ (w : ProtocolState) (k : Kept w) where
         is_one = b.is_one;
       }
 
-  -- what was committed at an index stands there in the agreed list
+  -- what was committed at an index is there in the agreed list
   pub has_at : (index : ℕ) (e : Entry) → WasCommitted w.size w.winner w.book w.acks index e → HasAt (agreed w) index e
   has_at index e h =
       let s = agreed_is.has_all h.term h.end h.committed in

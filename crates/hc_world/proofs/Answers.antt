@@ -88,7 +88,7 @@ given_within_bounds members bounds rules r =
     same.size
     (subst (λ (b : ℕ → ℕ). EachLog (AreGiven w.size b) w.log w.base w.book w.granted) same.bound (given_of w (runs_keep members bounds rules r) (runs_answer members bounds rules r)))
 
--- a request of a committed front is one of the table
+-- a request of a committed prefix is one of the table
 asked_in : (w : ProtocolState) → Kept w → (log : List Entry) (t m : ℕ) → Share m log (w.book t) → (index : ℕ) → 1 ≤ index → index ≤ m
     → is_request (entry_at log index).kind ≡ true → IsListed w.table (entry_at log index)
 asked_in w k log t m shares zero first low asks = absurd (omega (arith, first))

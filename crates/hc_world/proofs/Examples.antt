@@ -22,7 +22,7 @@ use Rattle.hc_world.specs.Loose.{AllowedButAggregate, AllowedButTake, IsBroken}
 use Rattle.hc_world.specs.Requests.{IsKnown, operations}
 
 infixr 10 ◌▸◌
--- what holds of a step, and of the steps behind it
+-- what holds of a step, and of the steps after it
 ◌▸◌ : {A B : Type 0} → A → B → A × B
 ◌▸◌ a b = (a, b)
 
@@ -48,7 +48,7 @@ request_of t v index term = record { term = t; candidate = v; last_index = index
 abbrev empty_request : ℕ → ℕ → VoteRequest
 empty_request t v = request_of t v 0 0
 
--- the Orders of leaders with an older entry in front
+-- the Orders of leaders whose logs begin with an older entry
 abbrev second_order : Order
 second_order =
     record { term = 3; leader = 0; previous = 0; previous_term = 0; start = 2; commit = 0; entries = blank_entry 1 ∷ blank_entry 3 ∷ [] }
@@ -101,7 +101,7 @@ right : reply_at (operations (the_request ∷ []) (blank_entry 1 ∷ entry_of 1 
 unfolding reply_at after_all serve command_of
 right = refl
 
--- a group of one wins two terms, and its log has the first term's entry in front at the second
+-- a group of one wins two terms, and at the second its log begins with the first term's entry
 pub counting_anywhere_breaks : IsBroken AllowedButAggregate AggregatesAreCommitted
 counting_anywhere_breaks =
     record {
@@ -421,7 +421,7 @@ requests_are_answered =
     }
 
 -- a group of three: member 0 wins, orders the request for member 1, and with its acknowledgement commits it; then member 1
--- stands, and wins with the vote of member 2, whose log is empty
+-- stands for election, and wins with the vote of member 2, whose log is empty
 pub entries_are_inherited : IsInherited
 entries_are_inherited =
     record {
@@ -548,8 +548,9 @@ requests_are_answered_in_order =
       replied = refl;
     }
 
--- and behind that all other steps: the Order is taken again, the reply repeated; the leader counts, tells what is committed,
--- applies and reports by itself; member 2 asks for the body, stands, yields, refuses, stops and begins again
+-- and then all other steps: the Order is taken again, the reply repeated; the leader counts, sends
+-- what is committed, applies and reports by itself; member 2 asks for the body, stands for election,
+-- yields, refuses, stops and begins again
 pub every_rule_is_made : IsMadeOfAll
 every_rule_is_made =
     record {

@@ -10,7 +10,7 @@ use Rattle.hc_world.specs.Kept.{Kept, IsFormed}
 use Rattle.hc_world.proofs.Majorities.{shared_member}
 use Rattle.hc_world.proofs.Shares.{share-sym, share-trans, share_less, term_same}
 
--- the grant behind an early vote
+-- the grant of an early vote
 pub record EarlyGrant (c : ℕ) (given : Option Grant) : Type 0 where
   pub grant : Grant
   pub is : given ≡ Some grant
@@ -34,7 +34,7 @@ pub positive : (n : ℕ) → 0 < n → (l : ℕ) × (n ≡ suc l)
 positive zero h = absurd (omega (arith, h))
 positive (suc n) h = (n, refl)
 
--- a log that isn't behind one that ends in a term above 0 isn't empty
+-- a log at least as recent as one that ends in a term above 0 isn't empty
 not_empty : (log : List Entry) (term index : ℕ) → IsNotAhead term index (last_term log) (length log) → 0 < term → 0 < length log
 not_empty [] term index (inl a) h = absurd (omega (arith, a, h))
 not_empty [] term index (inr a) h = absurd (omega (arith, a.0, h))
@@ -101,7 +101,7 @@ module _ (w : ProtocolState) (kept : Kept w) where
         let own : term_at (w.book t) (suc i.0) ≡ t = subst (λ (x : ℕ). term_at (w.book t) x ≡ t) i.1 committed.own in
         omega (arith, one, two, own)
 
-    -- a base that isn't behind a log that has what was committed has it too
+    -- a base at least as recent as a log that has what was committed has it too
     has_it : (u c l : ℕ) (log : List Entry) (table : List Request) → IsFormed table log → Share m log (w.book t)
         → IsNotAhead (last_term log) (length log) (last_term (w.base u)) (length (w.base u)) → w.winner u ≡ Some c → length (w.base u) ≡ suc l
         → ((T c' : ℕ) → t < T → T < u → w.winner T ≡ Some c' → Share m (w.base T) (w.book t)) → Share m (w.base u) (w.book t)

@@ -53,7 +53,7 @@ matches_push book log e h new = λ k l. by k (last_or_before log e k l)
     by k (inr f) =
         subst (λ (t : ℕ). Share (suc k) (log ++ e ∷ []) (book t)) (sym (term_front log e k f)) (share_before (suc k) log (book (term_at log (suc k))) (e ∷ []) (h k f))
 
--- an index of a log's front
+-- an index of a log's prefix
 within_take : (n k : ℕ) (log : List Entry) → k < length (take n log) → (k < n) × (k < length log)
 within_take n k log h = let e = length-take n log in (omega (arith, e, h), omega (arith, e, h))
 

@@ -187,7 +187,7 @@ module _ (w : ProtocolState) (k : Kept w) where
   places_are_within h (SendRequest q) a = λ y l. omega (arith, h y l, length-append w.table (q ∷ []))
   places_are_within h r a = h
 
-  -- what is committed behind the step at an index of a right reply was committed there before
+  -- what is committed after the step at an index of a right reply was committed there before
   stands_behind : (r : Rule) → Allowed w r → RepliesAreRight w → LaterRequestsStandBehind w
       → (x : Reply) → In x w.replied → (t m index place : ℕ) (q : Request) → IsCommittedIn w.size (after w r).winner (after w r).book (after w r).acks t m → 0 < index → index ≤ m
       → is_request (entry_at ((after w r).book t) index).kind ≡ true → (entry_at ((after w r).book t) index).rid ≡ q.rid → At w.table place q → x.place ≤ place → x.index < index
@@ -215,7 +215,7 @@ module _ (w : ProtocolState) (k : Kept w) where
               order (inl h) = sym (entry_shared m index ((after w r).book u) ((after w r).book t) (fronts_agree (after w r) (steps_keep w r k a) t m u n c d h) i)
               order (inr h) = entry_shared n index ((after w r).book t) ((after w r).book u) (fronts_agree (after w r) (steps_keep w r k a) u n t m d c (omega (arith, h))) j
 
-  -- a request that wasn't sent yet stands nowhere
+  -- a request that wasn't sent yet is nowhere in what is committed
   not_sent : (q : Request) → (IsKnown w.table q.rid → ⊥) → (t m index : ℕ) → Committed w t m → 0 < index → index ≤ m → is_request (entry_at (w.book t) index).kind ≡ true → (entry_at (w.book t) index).rid ≡ q.rid → ⊥
   not_sent q fresh t m zero c first low asks named = omega (arith, first)
   not_sent q fresh t m (suc j) c first low asks named =

@@ -1,4 +1,4 @@
--- Taking: the log behind an Order's entries is the front of its term's book, and keeps what both had.
+-- Taking: the log after an Order's entries is a prefix of its term's book, and keeps what both had.
 use Rattle.std.proofs.Common.{◌≡◌, ◌≢◌, ℕ, zero, suc, ◌+◌, ◌-◌, ◌<◌, ◌≤◌, ◌⊎◌, inl, inr, List, ◌++◌, length, take, drop, get_or, Option, refl, sym, ap, subst, ◌∙◌, arith}
 use Rattle.r2_base.specs.declared.entry.Entry.{Entry}
 use Rattle.r2_base.specs.Entry.{blank_entry}
@@ -22,7 +22,7 @@ module _ (winner : Option ℕ) (base book : List Entry) (o : Order) (slice : IsS
       ap (λ (xs : List Entry). get_or xs j (blank_entry 0)) (sym slice.entries_are)
       ∙ (get_or-take (length o.entries) (drop o.previous book) j (blank_entry 0) h ∙ get_or-drop o.previous book j (blank_entry 0))
 
-  -- the entries from i to k, behind what stands in front of them in the book, are the book's front
+  -- the entries from i to k, after what comes before them in the book, are the book's prefix
   pub front_of_slice : (i k : ℕ) → i ≤ k → k ≤ length o.entries → take (o.previous + i) book ++ drop i (take k o.entries) ≡ take (o.previous + k) book
   front_of_slice i k h l =
       let some : take k o.entries ≡ take k (drop o.previous book) = ap (take k) (sym slice.entries_are) ∙ take-take k (length o.entries) (drop o.previous book) l in
@@ -42,7 +42,7 @@ module _ (books : ℕ → List Entry) (log book : List Entry) (of_log : Matches 
       (share-sym (suc l) book (books (term_at log (suc l))) (subst (λ (t : ℕ). Share (suc l) book (books t)) (sym e) (of_book l j)))
 
   module _ (winner : Option ℕ) (base : List Entry) (o : Order) (slice : IsSlice winner base book o) (i : ℕ) (fits : Fits log o i) where
-    -- where an Order fits, the log is the book up to the entries that stand
+    -- where an Order fits, the log is the book up to the entries that are kept
     pub stands : Share (o.previous + i) log book
     stands = by o.previous i refl refl
       where
@@ -58,7 +58,7 @@ module _ (books : ℕ → List Entry) (log book : List Entry) (of_log : Matches 
             fits.entries j (omega arith) ∙ ap (λ (x : Entry). x.term) (entry_of_slice winner base book o slice j (omega (arith, fits.count))) in
             subst (λ (n : ℕ). Share n log book) sum (same_front (o.previous + j) (omega (arith, fits.within)) (omega (arith, fits.count, slice.within)) terms)
 
-    -- the new log is the front of the book
+    -- the new log is a prefix of the book
     pub taken_is : (k : ℕ) → i ≤ k → k ≤ length o.entries → taken log o i k ≡ take (o.previous + k) book
     taken_is k h l =
         ap (λ (xs : List Entry). xs ++ drop i (take k o.entries)) stands.same ∙ front_of_slice winner base book o slice i k h l
@@ -85,7 +85,7 @@ module _ (books : ℕ → List Entry) (log book : List Entry) (of_log : Matches 
                 let three = ap (λ (x : Entry). x.term) (entry_of_slice winner base book o slice i c.0) in
                 absurd (c.1 (one ∙ (sym two ∙ sym three)))
 
--- a member that takes an Order: its new log is a front of its term's book, and keeps what both had
+-- a member that takes an Order: its new log is a prefix of its term's book, and keeps what both had
 pub record Taking (w : ProtocolState) (v : ℕ) (o : Order) (i k : ℕ) : Type 0 where
   pub is : taken (w.log v) o i k ≡ take (o.previous + k) (w.book (w.term v))
   pub within : o.previous + k ≤ length (w.book (w.term v))

@@ -7,7 +7,7 @@ use Rattle.hc_world.specs.Laws.{AreTheUnreported, IsRising, IsUnreported}
 use Rattle.hc_world.specs.Log.{In, entry_at}
 use Rattle.hc_world.specs.Protocol.{ProtocolState, indexes_of, is_to, reported, unreported}
 
--- an index of an entry that passes the test, where so many stand before the log
+-- an index of an entry that passes the test, where so many come before the log
 record IsFound (f : Entry → Bool) (before : ℕ) (log : List Entry) (index : ℕ) : Type 0 where
   place : ℕ
   within : place < length log

@@ -26,7 +26,7 @@ new_or_kept None new g e = inr (refl, sym (same_Some new g e))
 new_or_kept (Some x) new g e = inl e
 
 module _ (granted : ℕ → ℕ → Option Grant) (t v : ℕ) (new : Grant) where
-  -- a grant behind the step was there before, or is the one that was added
+  -- a grant after the step was there before, or is the one that was added
   pub with_grant-from : (s u : ℕ) (g : Grant) → with_grant granted t v new s u ≡ Some g → (granted s u ≡ Some g) ⊎ Added granted t v new s u g
   with_grant-from s u g h = by (same_or_not s t) (same_or_not u v)
     where
@@ -90,7 +90,7 @@ module _ (w : ProtocolState) (k : Kept w) where
   no_vote : (s v : ℕ) → w.term v < s → None ≡ voted w.granted s v
   no_vote s v h = sym (ap (λ (o : Option Grant). option_map (λ (g : Grant). g.candidate) o) (no_grant s v h))
 
-  -- the grant that a member that stands gives itself
+  -- the grant that a member that stands for election gives itself
   pub own_new : (x : ℕ) → (after w (Stand x)).granted (suc (w.term x)) x ≡ Some (grant_of w (suc (w.term x)) x x)
   own_new x = with_grant-new w.granted (suc (w.term x)) x (grant_of w (suc (w.term x)) x x) (no_grant (suc (w.term x)) x (omega arith))
 

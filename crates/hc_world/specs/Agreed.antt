@@ -1,4 +1,4 @@
--- The agreed list: the longest front of a term's book that is committed.
+-- The agreed list: the longest prefix of a term's book that is committed.
 use Rattle.std.specs.Prelude.{◌≡◌, ◌⊎◌, ℕ, zero, suc, ◌*◌, ◌≤◌, Bool, true, max, ◌==◌, ◌&&◌, nat_le, nat_lt, if◌then◌else◌, List, [], length, take}
 use Rattle.r2_base.specs.declared.entry.Entry.{Entry}
 use Rattle.r2_base.specs.Entry.{is_request}
@@ -40,15 +40,15 @@ agreed_up_to w (suc t) = longer (committed_front w (suc t)) (agreed_up_to w t)
 unfoldable pub agreed : ProtocolState → List Entry
 agreed w = agreed_up_to w (highest w.size w.term)
 
--- a front of a book that is committed
+-- a prefix of a book that is committed
 pub record IsCommittedFront (w : ProtocolState) (log : List Entry) : Type 0 where
   pub term : ℕ
   pub index : ℕ
   pub committed : Committed w term index
   pub is : log ≡ take index (w.book term)
 
--- the list that the group has agreed on: each committed front of a book is one of its own, and it is such a front itself,
--- or there is none
+-- the list that the group has agreed on: each committed prefix of a book is one of its own, and it is such a prefix
+-- itself, or there is none
 pub record IsAgreed (w : ProtocolState) (log : List Entry) : Type 0 where
   pub has_all : (t m : ℕ) → Committed w t m → Share m log (w.book t)
   pub is_one : (log ≡ []) ⊎ IsCommittedFront w log
@@ -59,7 +59,7 @@ pub record HasAt (log : List Entry) (index : ℕ) (e : Entry) : Type 0 where
   pub within : index ≤ length log
   pub is : entry_at log index ≡ e
 
--- no request id stands at two indexes
+-- no request id is found at two indexes
 abbrev pub HasNoneTwice : List Entry → Type 0
 HasNoneTwice log =
     (i k : ℕ) → 1 ≤ i → i ≤ length log → 1 ≤ k → k ≤ length log → is_request (entry_at log i).kind ≡ true

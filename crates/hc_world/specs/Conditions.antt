@@ -38,7 +38,7 @@ pub record MayRise (w : ProtocolState) (v s : ℕ) : Type 0 where
   pub acts : CanAct w v
   pub higher : w.term v < s
 
--- a member that doesn't lead may stand; how long it waits before is left open (Raft, section 5.2)
+-- a member that doesn't lead may stand for election, however long it waited (Raft, section 5.2)
 pub record MayStand (w : ProtocolState) (v : ℕ) : Type 0 where
   pub acts : CanAct w v
   pub follows : w.role v ≢ Leader
@@ -53,7 +53,7 @@ pub record MayGrant (w : ProtocolState) (v : ℕ) (q : VoteRequest) : Type 0 whe
   pub free : (w.vote v ≡ None) ⊎ (w.vote v ≡ Some q.candidate)
   pub recent : IsNotAhead (last_term (w.log v)) (length (w.log v)) q.last_term q.last_index
 
--- a member tells its vote to whom it gave it (Raft, section 5.2)
+-- a member sends its vote to the member that it voted for (Raft, section 5.2)
 pub record MaySendVote (w : ProtocolState) (v c : ℕ) : Type 0 where
   pub acts : CanAct w v
   pub voted : w.vote v ≡ Some c
@@ -83,7 +83,7 @@ pub record MaySendOrder (w : ProtocolState) (v previous count : ℕ) : Type 0 wh
   pub leads : Leads w v
   pub within : previous + count ≤ length (w.log v)
 
--- what stands before the Order's entries, and the first k of these, stand in the log by their terms
+-- the log has, by their terms, what comes before the Order's entries and the first k of these
 pub record Fits (log : List Entry) (o : Order) (k : ℕ) : Type 0 where
   pub count : k ≤ length o.entries
   pub within : o.previous + k ≤ length log
@@ -107,12 +107,12 @@ pub record Conflicts (w : ProtocolState) (v : ℕ) (o : Order) (i : ℕ) : Type 
 abbrev pub Holds : List Rid → List Entry → Rid → Type 0
 Holds pool log rid = In rid pool ⊎ StandsIn rid log
 
--- the bodies of the requests behind the first i of these entries, up to k, are held
+-- the bodies of the requests after the first i of these entries, up to k, are held
 abbrev pub AreHeld : List Rid → List Entry → List Entry → ℕ → ℕ → Type 0
 AreHeld pool log entries i k =
     (j : ℕ) → i ≤ j → j < k → is_request (entry_at entries (suc j)).kind ≡ true → Holds pool log (entry_at entries (suc j)).rid
 
--- a member takes entries of an Order whose bodies it holds: its log ends behind the first i, or is cut there at a conflict
+-- a member takes entries of an Order whose bodies it holds: its log ends after the first i, or is cut there at a conflict
 -- (Raft, section 5.3; HovercRaft, on separating replication from order)
 pub record MayTake (w : ProtocolState) (v : ℕ) (o : Order) (i k : ℕ) : Type 0 where
   pub hears : Hears w v o

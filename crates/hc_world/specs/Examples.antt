@@ -32,9 +32,10 @@ reply_to q index place payload = record { request = q.rid; index = index; payloa
 abbrev pub LeadsFirst : ProtocolState → Type 0
 LeadsFirst w = (w.role 0 ≡ Leader) × (w.term 0 ≡ 1)
 
--- some run answers a request. In its front member 0 orders it for another member, which leaves the entry unreported. Then the
--- aggregator tells that the entry is committed; the other member learns it from there, applies the entry and answers. In the
--- end the entry stands behind the leader's first one in the agreed list, has one reply, and nothing is unreported
+-- some run answers a request. First member 0 orders it for another member, which leaves the entry
+-- unreported. Then the aggregator says that the entry is committed; the other member learns it from
+-- there, applies the entry and answers. In the end the entry comes after the leader's first one in
+-- the agreed list, has one reply, and nothing is unreported
 pub record IsServed : Type 0 where
   pub members : ℕ
   pub bounds : ℕ → ℕ

@@ -51,7 +51,7 @@ CandidatesHaveTerms w = (v : ℕ) → w.role v ≡ Candidate → 0 < w.term v
 abbrev pub CandidatesHaveNotWon : ProtocolState → Type 0
 CandidatesHaveNotWon w = (v : ℕ) → w.role v ≡ Candidate → w.winner (w.term v) ≢ Some v
 
--- a request for votes tells where the candidate's log ended when it voted for itself
+-- a request for votes says where the candidate's log ended when it voted for itself
 pub record TellsItsLog (granted : ℕ → ℕ → Option Grant) (q : VoteRequest) : Type 0 where
   pub grant : Grant
   pub given : granted q.term q.candidate ≡ Some grant
@@ -100,7 +100,7 @@ WinnersHadMajorities w = (t c : ℕ) → w.winner t ≡ Some c → IsMajority w.
 abbrev pub WinnersHaveTheirBooks : ProtocolState → Type 0
 WinnersHaveTheirBooks w = (t c : ℕ) → w.winner t ≡ Some c → w.term c ≡ t → w.log c ≡ w.book t
 
--- a leader won its term, and its own first entry stands behind the base
+-- a leader won its term, and its own first entry comes right after the base
 pub record LedBy (winner : Option ℕ) (base : List Entry) (v start : ℕ) : Type 0 where
   pub won : winner ≡ Some v
   pub start_is : start ≡ suc (length base)
@@ -147,7 +147,7 @@ Matches book log = (k : ℕ) → k < length log → Share (suc k) log (book (ter
 abbrev pub LogsMatchBooks : ProtocolState → Type 0
 LogsMatchBooks w = EachLog (Matches w.book) w.log w.base w.book w.granted
 
--- terms never fall, no request stands twice, and each request is the table's under its kind
+-- terms never fall, no request is found twice, and each request is the table's under its kind
 pub record IsFormed (table : List Request) (log : List Entry) : Type 0 where
   pub rising : (i k : ℕ) → i ≤ k → k < length log → term_at log (suc i) ≤ term_at log (suc k)
   pub distinct : (i k : ℕ) → i < k → k < length log → is_request (entry_at log (suc i)).kind ≡ true
@@ -180,7 +180,7 @@ OrdersAreSlices w = (o : Order) → In o w.orders → IsSlice (w.winner o.term) 
 abbrev pub MatchedIsTheLeaders : ProtocolState → Type 0
 MatchedIsTheLeaders w = (v : ℕ) → Share (w.matched v) (w.log v) (w.book (w.term v))
 
--- what was acknowledged is in the book, at a term of at most the member's, and stands in its log while its term is that
+-- what was acknowledged is in the book, at a term of at most the member's, and in its log while its term is that
 pub record AckedIsTheBooks (t index own : ℕ) (log book : List Entry) : Type 0 where
   pub below : index ≤ length book
   pub old : 0 < index → t ≤ own
@@ -200,7 +200,7 @@ pub record IsBelow (own greatest : ℕ) (a : Ack) : Type 0 where
 abbrev pub AcksAreBelow : ProtocolState → Type 0
 AcksAreBelow w = (a : Ack) → In a w.acks → IsBelow (w.term a.member) (acked w.acks a.term a.member) a
 
--- the bases of the terms won behind t and before an end begin with the first m entries of t's book
+-- the bases of the terms won after t and before an end begin with the first m entries of t's book
 abbrev pub BasesKeep : ProtocolState → ℕ → ℕ → ℕ → Type 0
 BasesKeep w t m end = (s c : ℕ) → t < s → s < end → w.winner s ≡ Some c → Share m (w.base s) (w.book t)
 
@@ -232,12 +232,12 @@ abbrev pub CommitsAreCommitted : ProtocolState → Type 0
 CommitsAreCommitted w =
     (v : ℕ) → 0 < w.commit v → IsCommitted w.size w.winner w.book w.acks (w.term v) (w.log v) (w.commit v)
 
--- and so is what an Order tells
+-- and so is what an Order says is committed
 abbrev pub OrdersTellCommitted : ProtocolState → Type 0
 OrdersTellCommitted w =
     (o : Order) → In o w.orders → 0 < o.commit → IsCommitted w.size w.winner w.book w.acks o.term (w.book o.term) o.commit
 
--- and what the aggregator tells
+-- and what the aggregator says is committed
 abbrev pub AggregatesAreCommitted : ProtocolState → Type 0
 AggregatesAreCommitted w = (a : AggregateCommit) → In a w.aggregates → Committed w a.term a.index
 
@@ -258,7 +258,7 @@ PassedWasCommitted w = (x : Passed) → In x w.passed → WasCommitted w.size w.
 abbrev pub AppliedIsCommitted : ProtocolState → Type 0
 AppliedIsCommitted w = (v : ℕ) → w.applied v ≤ w.commit v
 
--- and it has applied each entry up to there, as it stands in its log
+-- and it has applied each entry up to there, as its log has it
 abbrev pub AppliedWasPassed : ProtocolState → Type 0
 AppliedWasPassed w =
     (v k : ℕ) → k < w.applied v → In (record { member = v; index = suc k; entry = entry_at (w.log v) (suc k) }) w.passed
@@ -276,11 +276,11 @@ pub record HasPassed (passed : List Passed) (v index : ℕ) : Type 0 where
 abbrev pub HasApplied : List Passed → ℕ → ℕ → Type 0
 HasApplied passed v count = (k : ℕ) → k < count → HasPassed passed v (suc k)
 
--- an acknowledgement tells no more than its member had applied
+-- an acknowledgement reports no more than its member had applied
 abbrev pub AcksTellApplied : ProtocolState → Type 0
 AcksTellApplied w = (a : Ack) → In a w.acks → HasApplied w.passed a.member a.applied
 
--- an acknowledgement of the report's term, by its member, told its index
+-- an acknowledgement of the report's term, by its member, reported its index
 pub record WasTold (acks : List Ack) (r : Report) : Type 0 where
   pub ack : Ack
   pub sent : In ack acks
@@ -322,7 +322,7 @@ AggregatorFollowsAnOrder w =
 
 -- Requests (HovercRaft, on separating replication from order) --
 
--- no request id stands twice in the table
+-- no request id is found twice in the table
 abbrev pub TableIsDistinct : ProtocolState → Type 0
 TableIsDistinct w =
     (i k : ℕ) (q r : Request) → At w.table i q → At w.table k r → q.rid ≡ r.rid → i ≡ k

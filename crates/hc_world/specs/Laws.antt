@@ -47,7 +47,7 @@ RunsKeep = (members : ℕ) (bounds : ℕ → ℕ) (rules : List Rule) → IsRun 
 
 -- Agreement --
 
--- what was committed stands in the log of each later leader (Raft, section 5.4.3)
+-- what was committed is in the log of each later leader (Raft, section 5.4.3)
 abbrev pub LaterLeadersHaveIt : Type 0
 LaterLeadersHaveIt =
     (w : ProtocolState) → Kept w → (t m u c : ℕ) → Committed w t m → t < u → w.winner u ≡ Some c → Share m (w.base u) (w.book t)
@@ -87,7 +87,7 @@ AgreedWasAsked =
     → is_request (entry_at (agreed (state_after members bounds rules)) index).kind ≡ true
     → IsListed (state_after members bounds rules).table (entry_at (agreed (state_after members bounds rules)) index)
 
--- and no request id stands twice in it
+-- and no request id is found twice in it
 abbrev pub NoRequestTwice : Type 0
 NoRequestTwice =
     (members : ℕ) (bounds : ℕ → ℕ) (rules : List Rule) → IsRun members bounds rules → HasNoneTwice (agreed (state_after members bounds rules))
@@ -106,7 +106,7 @@ StepsAnswer = (w : ProtocolState) (r : Rule) → Kept w → Answered w → Allow
 abbrev pub RunsAnswer : Type 0
 RunsAnswer = (members : ℕ) (bounds : ℕ → ℕ) (rules : List Rule) → IsRun members bounds rules → Answered (state_after members bounds rules)
 
--- a reply's request stands at its index of the agreed list, and its payload is the one-thread service's there
+-- a reply's request is at its index of the agreed list, and its payload is the one-thread service's there
 pub record IsAnswer (w : ProtocolState) (r : Reply) : Type 0 where
   pub stands : HasAt (agreed w) r.index (entry_at (agreed w) r.index)
   pub named : (entry_at (agreed w) r.index).rid ≡ r.request
@@ -118,7 +118,7 @@ RepliesAreTheServices =
     (members : ℕ) (bounds : ℕ → ℕ) (rules : List Rule) → IsRun members bounds rules → (r : Reply) → In r (state_after members bounds rules).replied
     → IsAnswer (state_after members bounds rules) r
 
--- a reply that stood before a request was first sent has a smaller index than each reply to that request
+-- a reply from before a request was first sent has a smaller index than each reply to that request
 abbrev pub RepliesAreInOrder : Type 0
 RepliesAreInOrder =
     (members : ℕ) (bounds : ℕ → ℕ) (rules : List Rule) → IsRun members bounds rules → (earlier later : Reply) (place : ℕ) (q : Request)
@@ -166,7 +166,7 @@ GivenWithinBounds =
 
 -- What the conditions are for --
 
--- an aggregator that counts before its leader's own first entry tells what isn't committed
+-- an aggregator that counts before its leader's own first entry calls committed what isn't
 abbrev pub CountingAnywhereBreaks : Type 0
 CountingAnywhereBreaks = IsBroken AllowedButAggregate AggregatesAreCommitted
 
@@ -190,7 +190,7 @@ ConflictsAreCut = IsCut (blank_entry 1 ∷ []) (blank_entry 2 ∷ [])
 abbrev pub RequestsAreAnswered : Type 0
 RequestsAreAnswered = IsServed
 
--- a committed entry stands in the log with which another member begins to lead
+-- a committed entry is in the log with which another member begins to lead
 abbrev pub EntriesAreInherited : Type 0
 EntriesAreInherited = IsInherited
 

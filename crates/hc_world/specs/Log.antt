@@ -26,13 +26,13 @@ last_term log = term_at log (length log)
 abbrev pub IsNotAhead : ℕ → ℕ → ℕ → ℕ → Type 0
 IsNotAhead term index that_term that_index = (term < that_term) ⊎ ((term ≡ that_term) × (index ≤ that_index))
 
--- both lists have so many items in front, and they are the same
+-- both lists have so many items, and the first so many are the same
 pub record Share {A : Type 0} (count : ℕ) (these those : List A) : Type 0 where
   pub here : count ≤ length these
   pub there : count ≤ length those
   pub same : take count these ≡ take count those
 
--- so many entries from behind an index on have the terms of these
+-- so many entries after an index have the terms of these
 abbrev pub HaveTerms : ℕ → ℕ → List Entry → List Entry → Type 0
 HaveTerms count behind log these = (k : ℕ) → k < count → term_at log (suc (behind + k)) ≡ term_at these (suc k)
 

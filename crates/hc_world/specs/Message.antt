@@ -17,8 +17,8 @@ pub record Vote : Type 0 where
   pub voter : ℕ
   pub candidate : ℕ
 
--- a leader tells a slice of its log (Raft, section 5.3; without the bodies: HovercRaft, on separating replication from
--- order): what stands before it, the index of the leader's own first entry, and how much is committed
+-- a leader sends a slice of its log (Raft, section 5.3; without the bodies: HovercRaft, on separating replication from
+-- order): what comes before it, the index of the leader's own first entry, and how much is committed
 pub record Order : Type 0 where
   pub term : ℕ
   pub leader : ℕ

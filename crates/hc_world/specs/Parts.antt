@@ -128,7 +128,8 @@ pub record Leaves (w : ProtocolState) (r : Rule) (x : ProtocolState) : Type 0 wh
   pub bound : x.bound ≡ w.bound
   pub part : (p : Part) → is_named p (changed_by r) ≡ false → Same p w x
 
--- what only grows: what was sent, granted, won, learnt, applied or answered stays, books and the table grow behind
+-- what only grows: what was sent, granted, won, learnt, applied or answered stays, and books and the table
+-- grow at the end
 pub record Grows (w x : ProtocolState) : Type 0 where
   pub terms : (v : ℕ) → w.term v ≤ x.term v
   pub grants : (t v : ℕ) (g : Grant) → w.granted t v ≡ Some g → x.granted t v ≡ Some g

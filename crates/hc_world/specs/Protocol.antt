@@ -20,7 +20,7 @@ pub data Role : Type 0 where
   Follower Candidate Leader : Role
 
 -- the group and its history. Members are numbers below `size`; what is kept by member, by term, or by term and voter is a
--- function of these. Of messages of one kind the newest stands first
+-- function of these. Of messages of one kind the newest comes first
 pub record ProtocolState : Type 0 where
   -- how many members there are, and how many unreported entries each member may be given: none where it is 0
   pub size : ℕ
@@ -159,7 +159,7 @@ reported (r ∷ more) v t p =
 abbrev pub is_to : ℕ → ℕ → Entry → Bool
 is_to t p e = is_request e.kind && (t == e.term) && (p == e.replier)
 
--- the indexes of the entries that pass a test, where so many entries stand before these
+-- the indexes of the entries that pass a test, where so many entries come before these
 abbrev pub indexes_of : (Entry → Bool) → ℕ → List Entry → List ℕ
 indexes_of f before [] = []
 indexes_of f before (e ∷ more) =

@@ -27,7 +27,7 @@ RepliesAreRight w = (r : Reply) → In r w.replied → IsRight w.size w.winner w
 abbrev pub PlacesAreWithin : ProtocolState → Type 0
 PlacesAreWithin w = (r : Reply) → In r w.replied → r.place ≤ length w.table
 
--- a request that was first sent behind a reply is committed only behind the reply's entry
+-- a request that was first sent after a reply is committed only after the reply's entry
 abbrev pub LaterRequestsStandBehind : ProtocolState → Type 0
 LaterRequestsStandBehind w =
     (r : Reply) → In r w.replied → (t m index place : ℕ) (q : Request) → Committed w t m → 0 < index → index ≤ m
@@ -43,7 +43,7 @@ pub record IsGiven (members : ℕ) (bound : ℕ → ℕ) (e : Entry) : Type 0 wh
   pub member : e.replier < members
   pub answers : 0 < bound e.replier
 
--- each request of a log that stands there in this term is
+-- each request that a log has in this term is
 abbrev pub AreGivenIn : ℕ → (ℕ → ℕ) → ℕ → List Entry → Type 0
 AreGivenIn members bound t log =
     (k : ℕ) → k < length log → term_at log (suc k) ≡ t → is_request (entry_at log (suc k)).kind ≡ true

@@ -1,4 +1,4 @@
--- The table of requests: which requests were sent, and a log's operations with the bodies that stand in the table.
+-- The table of requests: which requests were sent, and a log's operations with the bodies of the table.
 use Rattle.std.specs.Prelude.{◌≡◌, ℕ, zero, suc, if◌then◌else◌, List, [], ◌∷◌}
 use Rattle.r2_base.specs.declared.rid.Rid.{Rid}
 use Rattle.r2_base.specs.declared.entry.Entry.{Entry}

@@ -1,4 +1,4 @@
--- The rules: what each step of the protocol changes in the state. When a step may be made stands beside this page.
+-- The rules: what each step of the protocol changes in the state. The conditions say when a step may be made.
 use Rattle.std.specs.Prelude.{ℕ, suc, ◌+◌, true, false, max, min, ◌==◌, is_some, List, [], ◌∷◌, ◌++◌, length, take, drop, Option, Some, None}
 use Rattle.std.specs.Option.{unwrap_or}
 use Rattle.r2_base.specs.declared.rid.Rid.{Rid}
@@ -18,7 +18,7 @@ pub data Rule : Type 0 where
   AskVotes : (v : ℕ) → Rule
   -- v gives its vote to the candidate that asked (Raft, sections 5.2 and 5.4.1)
   GrantVote : (v : ℕ) → VoteRequest → Rule
-  -- v tells a candidate that it has its vote; it may do so again (Raft, section 5.2)
+  -- v sends its vote to a candidate; it may do so again (Raft, section 5.2)
   SendVote : (v c : ℕ) → Rule
   -- a candidate counts the vote of c (Raft, section 5.2)
   CountVote : (v c : ℕ) → Rule
@@ -26,11 +26,11 @@ pub data Rule : Type 0 where
   Win : (v : ℕ) → Rule
   -- a leader appends a request's entry, to be answered by p (Raft, section 5.3; HovercRaft, on load balancing of replies)
   OrderRequest : (v : ℕ) → Request → (p : ℕ) → Rule
-  -- a leader sends so many entries behind an index (Raft, section 5.3)
+  -- a leader sends so many entries after an index (Raft, section 5.3)
   SendOrder : (v previous count : ℕ) → Rule
   -- v finds the first k entries of an Order in its log already (Raft, section 5.3)
   Confirm : (v : ℕ) → Order → (k : ℕ) → Rule
-  -- v finds the first i entries of an Order in its log, cuts what is behind them, and appends those up to k (Raft, section 5.3)
+  -- v finds the first i entries of an Order in its log, cuts what is after them, and appends those up to k (Raft, section 5.3)
   Take : (v : ℕ) → Order → (i k : ℕ) → Rule
   -- v acknowledges an index (Raft, section 5.3)
   Acknowledge : (v m : ℕ) → Rule
@@ -109,7 +109,7 @@ order_of w v previous count =
       entries = take count (drop previous (w.log v));
     }
 
--- a log that keeps what is in front of an Order's entry i + 1, and has the Order's entries up to k
+-- a log that keeps what is before an Order's entry i + 1, and has the Order's entries up to k
 abbrev pub taken : List Entry → Order → ℕ → ℕ → List Entry
 taken log o i k = take (o.previous + i) log ++ drop i (take k o.entries)
 

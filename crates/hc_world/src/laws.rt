@@ -8,7 +8,8 @@ pub fn rules_leave_the_rest()
     ensures { RulesLeaveTheRest }
 {}
 
-/// What was sent, granted, won, learnt, applied or answered stays. Terms only grow; books and the table of requests grow behind.
+/// What was sent, granted, won, learnt, applied or answered stays. Terms only grow; books and the table of requests grow at
+/// the end.
 pub fn rules_only_add()
     ensures { RulesOnlyAdd }
 {}
@@ -33,7 +34,7 @@ pub fn runs_keep()
     ensures { RunsKeep }
 {}
 
-/// What was committed stands in the log with which each later leader began (Raft, section 5.4.3).
+/// What was committed is in the log with which each later leader began (Raft, section 5.4.3).
 pub fn later_leaders_have_it()
     ensures { LaterLeadersHaveIt }
 {}
@@ -43,7 +44,7 @@ pub fn one_term_commits()
     ensures { OneTermCommits }
 {}
 
-/// The agreed list has each committed front of a leader's book in front, and is itself the longest of these.
+/// The agreed list has each committed prefix of a leader's book as a prefix, and is itself the longest of these.
 pub fn the_agreed_list_is_agreed()
     ensures { AgreedIsAgreed }
 {}
@@ -73,7 +74,7 @@ pub fn what_is_agreed_was_asked_for()
     ensures { AgreedWasAsked }
 {}
 
-/// No request id stands twice in the agreed list.
+/// No request id is found twice in the agreed list.
 pub fn no_request_stands_twice()
     ensures { NoRequestTwice }
 {}
@@ -93,12 +94,12 @@ pub fn runs_answer()
     ensures { RunsAnswer }
 {}
 
-/// A reply's request stands at its index of the agreed list, and the reply is the one-thread service's there.
+/// A reply's request is at its index of the agreed list, and the reply is the one-thread service's there.
 pub fn replies_are_the_services()
     ensures { RepliesAreTheServices }
 {}
 
-/// A reply is later than every reply that stood before its request was first sent.
+/// A reply is later than every reply that was there before its request was first sent.
 pub fn replies_are_in_order()
     ensures { RepliesAreInOrder }
 {}
@@ -120,7 +121,7 @@ pub fn requests_are_given_within_bounds()
 {}
 
 /// Why the aggregator counts only from its leader's own first entry on: without this condition there is a run in which it
-/// tells what isn't committed.
+/// calls committed what isn't.
 pub fn counting_anywhere_breaks()
     ensures { CountingAnywhereBreaks }
 {}

@@ -73,7 +73,7 @@ All-go_on P next messages new all =
       | false ↦ All-begin P next messages new all
     ]
 
--- what is left: what stood before, and the part's message where it isn't whole
+-- what is left: what was there before, and the part's message where it isn't whole
 pub left : (P : Unfinished → Type 0) (messages : List Unfinished) (key : Key) (h : Header) (payload : List ℕ) → All P messages → (refused messages key h payload ≡ None → whole_body (with_part (message_under key messages) h payload).count (with_part (message_under key messages) h payload).pieces ≡ None → P (with_part (message_under key messages) h payload)) → All P (added messages key h payload).1
 left P messages key h payload all new =
     let next : Unfinished = with_part (message_under key messages) h payload in

@@ -42,7 +42,7 @@ GivesBody body More = Unit {0}
 GivesBody body Repeat = Unit {0}
 GivesBody body (Dropped key) = Unit {0}
 
--- what is left stood before, or is under this key and has parts of the body only
+-- what is left was there before, or is under this key and has parts of the body only
 pub record KeepsBody (body : List ℕ) (key : Key) (messages : List Unfinished) (r : Added × List Unfinished) : Type 0 where
   pub answer : GivesBody body r.0
   pub left : All (λ m. Contains messages m ⊎ ((m.key ≡ key) × HasPartsOf body m)) r.1

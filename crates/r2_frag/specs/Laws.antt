@@ -19,7 +19,7 @@ use Rattle.r2_frag.specs.Keys.{client_of, key_at, sender_of}
 use Rattle.r2_frag.specs.Parts.{IsSendable, carried, part_count, part_datagram, part_header, parts_of, piece, piece_size}
 
 -- where a key has parts of one body only and a part of that body is added, a whole body is that one, and each message that
--- is left stood before or has parts of that body only
+-- is left was there before or has parts of that body only
 abbrev pub OneBody : Type 0
 OneBody =
     (body : List ℕ) (messages : List Unfinished) (key : Key) (h : Header) (payload : List ℕ)

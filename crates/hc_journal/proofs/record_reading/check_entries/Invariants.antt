@@ -3,6 +3,6 @@ use Rattle.hc_message.specs.Fields.{after}
 use Rattle.hc_journal.specs.RecordReading.{front_entries}
 use Rattle.hc_journal.proofs.record_reading.check_entries.Given as goal
 
--- after what is still read stand the bytes that stand after all
+-- the bytes after what is still read are the bytes after all
 abbrev pub invariant-entries : goal.invariant-entries
 invariant-entries l = after (front_entries (l.count - l.counter) l.rest) ≡ after (front_entries l.count l.bytes)

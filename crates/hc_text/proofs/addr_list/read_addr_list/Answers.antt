@@ -1,4 +1,4 @@
--- The last address is behind the last comma, and a text with more commas is no list.
+-- The last address is after the last comma, and a text with more commas is no list.
 use Rattle.std.proofs.Common.{◌∷◌, [], length, sym, subst, arith, ap, length-append}
 use Rattle.std.proofs.lemmas.Result.{IfOk-weaker}
 use Rattle.hc_text.proofs.AddrLists.{AllGoOn, IsReadTo, cut_next, end_only, goes_on_begin, goes_on_push, last_of_most, last_uncut, list_end, named_at, read_to_begin, read_to_push}
