@@ -37,7 +37,7 @@ unfolding items_of moments_of asked_in
 cuts-asks s k policy body a b front rest room may gives passed =
     cut-one room (talk s k false) a b (Asks policy body) front rest (refl, refl, may) (omega arith) gives passed
 
--- nothing was asked for want of memory
+-- nothing was asked, since memory ran out
 pub asks-none : (t : Talk) (a b : Outside) (room : ℕ) → Passes a b [] [] [] [] → StopsTalk [] room t a b Memory
 unfolding course items_of moments_of asked_in
 asks-none t a b room passed =

@@ -68,7 +68,7 @@ ids-of false true c e = cc
 ids-of false false true e = refl
 ids-of false false false e = cc
 
--- a call that may begin has an id, and one that can't for want of ids has none
+-- a call that may begin has an id, and where ids ran out there is none
 left-over : (s : SessionState) (body : List ℕ) → refusal s body ≡ None → s.next < id_limit
 left-over s body may = leb-false id_limit s.next (none-of (is_some s.open_call) (nat_lt most_body (length body)) (nat_le id_limit s.next) may)
 

@@ -113,7 +113,7 @@ goes-then t u a b c xs before after Then More went asks on goes = record {
   then = on goes.behind goes.steps goes.then;
 }
 
--- the step behind some is the same seen from further back
+-- where steps go on after some, the talk is the same, seen from before those
 last-then : (t u : Talk) (xs before : List Step) → u ≡ (course t xs).next → (course u before).next ≡ (course t (xs ++ before)).next
 last-then t u xs before left = ap (λ (w : Talk). (course w before).next) left ∙ sym (next-then t xs before)
 
@@ -127,7 +127,7 @@ text-from t u xs before left = ap (λ (w : Talk). ends_text (course t xs).ends +
 within-then : (room more : ℕ) (xs ys : List Step) → length (items_of xs) + more ≡ room → length (items_of ys) ≤ more → length (items_of (xs ++ ys)) ≤ room
 within-then room more xs ys sum within = omega (arith, few-then xs ys)
 
--- what was taken behind some steps, with the last step by itself
+-- what was taken after some steps, with the last step by itself
 took-last : (t u : Talk) (a b c : Outside) (xs before : List Step) (last : Step) (sends : List Datagram) (text : List ℕ)
     → Went t u a b xs → Took u b c (before ++ last ∷ []) sends text
     → Took t a c ((xs ++ before) ++ last ∷ []) ((course t xs).sends ++ sends) (ends_text (course t xs).ends ++ text)

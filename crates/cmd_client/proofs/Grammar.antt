@@ -17,7 +17,7 @@ use Rattle.cmd_client.specs.Talk.{Asked, Talk}
 abbrev NoEnd : List ℕ → Type 0
 NoEnd text = All (λ b. b ≢ 10) text
 
--- the text has a line's end behind it, or is too long
+-- the text has a line's end after it, or is too long
 abbrev Ends : List ℕ → List ℕ → Type 0
 Ends text behind = ((more : List ℕ) × (behind ≡ 10 ∷ more)) ⊎ (8192 < length text)
 
@@ -47,7 +47,7 @@ same_cut (c ∷ x) (d ∷ y) a b p q e =
     let rests = same_cut x y a b (rest_of c x p) (rest_of d y q) (same_rest c d (x ++ 10 ∷ a) (y ++ 10 ∷ b) e) in
     (ap (λ z. z ∷ x) heads ∙ ap (λ z. d ∷ z) rests.0, rests.1)
 
--- a piece without an end of a line is no longer than what stands before the first one
+-- a piece without an end of a line is no longer than what comes before the first one
 no_longer : (x y a b : List ℕ) → NoEnd y → x ++ 10 ∷ a ≡ y ++ b → length y ≤ length x
 no_longer x [] a b q e = omega arith
 no_longer [] (d ∷ y) a b q e = absurd (head_other d y q (sym (same_head 10 d a (y ++ b) e)))
@@ -105,14 +105,14 @@ IsKnownEnd left line [] = IsAtEnd left ⊎ (8192 < length line)
 at_end : (left : Option (List ℕ)) (more : List ℕ) → left ≡ Some more → IsAtEnd left → more ≡ []
 at_end left more is ended = subst IsAtEnd is ended
 
--- where a script is cut at a line's end or at its own, there is an end of a line behind, once its last text has one too
+-- where a script is cut at a line's end or at its own, an end of a line follows, once its last text has one too
 end_behind : (left : Option (List ℕ)) (more bad rest : List ℕ) → left ≡ Some more → IsKnownEnd left bad rest → Ends bad ((rest ++ more) ++ 10 ∷ [])
 end_behind left more bad [] is (inl ended) = inl ([], ap (λ x. x ++ 10 ∷ []) (at_end left more is ended))
 end_behind left more bad [] is (inr long) = inr long
 end_behind left more bad (b ∷ rest) is (inl end) = inl ((rest ++ more) ++ 10 ∷ [], ap (λ x. x ∷ ((rest ++ more) ++ 10 ∷ [])) end)
 end_behind left more bad (b ∷ rest) is (inr long) = inr long
 
--- what was taken and what is left, with an end behind
+-- what was taken and what is left, and then an end of a line
 joined : (script taken more front bad rest : List ℕ) → script ≡ taken ++ more → taken ≡ front ++ bad ++ rest → script ++ 10 ∷ [] ≡ front ++ (bad ++ ((rest ++ more) ++ 10 ∷ []))
 joined script taken more front bad rest took split =
     ap (λ x. x ++ 10 ∷ []) (took ∙ ap (λ x. x ++ more) split ∙ append_assoc (front ++ bad) rest more)
@@ -135,7 +135,7 @@ next_end : (left : Option (List ℕ)) (line rest : List ℕ) → IsLineEnd left 
 next_end left line [] ended = inl ended
 next_end left line (b ∷ rest) is = inl is
 
--- the line behind some is one of the script's
+-- the line after some is one of the script's
 next_said : (policy : Policy) (script taken : List ℕ) (left' : Option (List ℕ)) (asked : List Asked) (line : List ℕ) (number : ℕ)
     → IsScript script → Consumes (Some script) left' taken → IsNext policy left' taken asked line number → IsOutside line → ⊥
 next_said policy script taken left' asked line number is took next outside =

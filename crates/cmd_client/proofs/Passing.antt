@@ -31,7 +31,7 @@ hears-end (Some []) (Some y) p = (refl, p.1)
 hears-end (Some (ADatagram e ∷ x)) (Some y) p = absurd (cc (p.0))
 hears-end (Some (NoDatagram ∷ x)) (Some y) p = absurd (cc (p.0))
 
--- what an answer of the link is among the items that it tells
+-- what an answer of the link is among the items that it reports
 pub ruleset heard_items = (hears-datagram, hears-quiet, hears-end)
 
 pub hears-none : (a b : Option (List Item)) → IsKept a b → HearsItems a b []

@@ -49,7 +49,7 @@ pub tell-passes : (l n : Option (List Item)) (a d : Option (List Datagram)) (k k
 tell-passes l n a d k k' w x moment sends text gives left gave wrote =
     record { heard = hears-none l n left; told = Tells-one k k' moment gives; gave = gave; wrote = wrote }
 
--- a step by itself: whole, with a front of its datagrams, with a front of its line, or lost
+-- a step by itself: whole, with a prefix of its datagrams, with a prefix of its line, or lost
 pub went-one : (t u : Talk) (a b : Outside) (x : Step) → MayTake t x → u ≡ (taken t x).next
     → Passes a b (items_of (x ∷ [])) (moments_of (x ∷ [])) (taken t x).sends (ends_text (taken t x).ends) → Went t u a b (x ∷ [])
 unfolding course
@@ -99,7 +99,7 @@ went-hears s s' k item end a b opened session ended passed =
     (ap (λ (x : SessionState). talk x k true) session ∙ ap (λ (b : Bool). record { session = (stepped s (event_of item)).session; ticker = k; behind = true; over = b }) (sym (never-times-out s item)))
     (subst (λ (e : Option CallEnd). Passes a b (item ∷ []) [] (stepped s (event_of item)).step.sends (ends_text (listed e))) ended passed)
 
--- a moment was told
+-- the clock gave a moment
 pub went-tells : (s s' : SessionState) (k u : Ticker) (moment : ℕ) (end : Option CallEnd) (r : Stepped) (a b : Outside)
     → u ≡ ticked k moment → stepped_by s (due_at k moment) ≡ r → s' ≡ r.session → end ≡ r.step.end
     → Passes a b [] (moment ∷ []) r.step.sends (ends_text (listed end))

@@ -60,7 +60,7 @@ pub record IsHere (policy : Policy) (room now : ℕ) (left left' : Option (List 
   pub place : IsMid policy left left' r taken asked ⊎ IsOver policy left left' r taken asked
   pub knows : KnowsEnd r left'
 
--- a line was taken with its end behind it, and not run yet
+-- a line was taken with its end after it, and not run yet
 pub record IsRead (policy : Policy) (left left' : Option (List ℕ)) (r : ReaderState) (taken : List ℕ) (asked : List Asked) (line : List ℕ) : Type 0 where
   pub texts : List (List ℕ)
   pub given : HasGiven fresh r left left' taken (texts ++ line ∷ [])
@@ -171,7 +171,7 @@ went-still : (u : Talk) (b c : Outside) → Passes b c [] [] [] [] → Went u u 
 unfolding course items_of moments_of
 went-still u b c passed = record { took = record { in_turn = tt; passed = passed }; left = refl }
 
--- no call timed out, and the clock was asked behind each item
+-- no call timed out, and the clock was asked after each item
 abbrev pub IsIdle : Talk → Type 0
 IsIdle u = (u.over ≡ false) × (u.behind ≡ false)
 
@@ -196,7 +196,7 @@ made-of t u a b c asked room now done behind passed =
 
 -- ---- a line that can't be had
 
--- what was taken stays in front
+-- what was taken stays a prefix
 front-held : (policy : Policy) (left b left' : Option (List ℕ)) (s r : ReaderState) (taken more : List ℕ) (asked : List Asked)
     → (mid : IsMid policy left b s taken asked) → Consumes b left' more → r.taken ≡ s.taken + length more → Holds s r more
     → HasGiven fresh r left left' (taken ++ more) mid.texts
@@ -322,7 +322,7 @@ took-of : (policy : Policy) (left left' : Option (List ℕ)) (r : ReaderState) (
 took-of policy left left' r taken asked line (inl read) = read.given.took
 took-of policy left left' r taken asked line (inr last) = last.took
 
--- behind a line that was run
+-- after a line that was run
 pub place-then : (policy : Policy) (left left' : Option (List ℕ)) (r : ReaderState) (taken : List ℕ) (asked more : List Asked) (line : List ℕ) → LinePlace policy left left' r taken asked line
     → Say policy (line ∷ []) more → IsMid policy left left' r taken (asked ++ more) ⊎ IsOver policy left left' r taken (asked ++ more)
 place-then policy left left' r taken asked more line (inl read) said =

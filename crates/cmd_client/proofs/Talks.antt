@@ -14,7 +14,7 @@ pub converse-init : (t : Talk) (o : Outside) (room : ℕ)
 unfolding asked_in items_of
 converse-init t o room = ([], went-none t o, refl, omega arith)
 
--- behind the item of one more round
+-- after the item of one more round
 pub heard-one : (t u v : Talk) (a b c : Outside) (steps : List Step) (item : Item) (room left : ℕ)
     → Went t u a b steps → asked_in steps ≡ [] → length (items_of steps) + left ≡ room → 0 < left → Went u v b c (Hears item ∷ [])
     → Went t v a c (steps ++ Hears item ∷ []) × (asked_in (steps ++ Hears item ∷ []) ≡ []) × (length (items_of (steps ++ Hears item ∷ [])) + (left - 1) ≡ room)
@@ -22,7 +22,7 @@ unfolding asked_in items_of
 heard-one t u v a b c steps item room left went asks counted some heard =
     (went-then t u v a b c steps (Hears item ∷ []) went heard, asks-then steps (Hears item ∷ []) [] [] asks refl, omega (arith, few-then steps (Hears item ∷ []), counted, some))
 
--- behind one more round
+-- after one more round
 pub round-of : (t u v w : Talk) (a b c d : Outside) (steps : List Step) (item : Item) (moment room left : ℕ)
     → Went t u a b steps → asked_in steps ≡ [] → length (items_of steps) + left ≡ room → 0 < left → Went u v b c (Hears item ∷ []) → Went v w c d (Tells moment ∷ [])
     → Went t w a d ((steps ++ Hears item ∷ []) ++ Tells moment ∷ []) × (asked_in ((steps ++ Hears item ∷ []) ++ Tells moment ∷ []) ≡ [])

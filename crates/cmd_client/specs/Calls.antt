@@ -41,7 +41,7 @@ pub record StopsIn (policy : Policy) (asked : List Asked) (room : ℕ) (left : O
   pub lines : HasLines policy left taken asked
   pub stops : StopsTalk asked room t old new status
 
--- behind the start, by how the run ended
+-- after the start, by how the run ended
 abbrev pub Ended : Policy → List Asked → ℕ → Option (List ℕ) → List ℕ → Talk → Outside → Outside → Status → Type 0
 Ended policy asked room left taken t old new Done = AreMade asked room t old new × IsWhole policy left taken asked
 Ended policy asked room left taken t old new (BadScript number) = AreMade asked room t old new × IsStuck policy left taken asked number

@@ -17,7 +17,7 @@ pub record Outside : Type 0 where
 abbrev pub outside : Option (List Item) → Option (List Datagram) → Option (List ℕ) → Option (List ℕ) → Outside
 outside left sent clock written = record { left = left; sent = sent; clock = clock; written = written }
 
--- the next item; behind the last one all is quiet
+-- the next item; after the last one all is quiet
 abbrev pub next_item : List Item → Item
 next_item [] = NoDatagram
 next_item (item ∷ rest) = item
@@ -27,7 +27,7 @@ abbrev pub HearsFrom : List Item → List Item → List Item → Type 0
 HearsFrom items rest [] = rest ≡ items
 HearsFrom items rest (item ∷ more) = (item ≡ next_item items) × HearsFrom (drop 1 items) rest more
 
--- where a link tells what is left, these were heard from it
+-- where a link reports what is left, these were heard from it
 abbrev pub HearsItems : Option (List Item) → Option (List Item) → List Item → Type 0
 HearsItems None new items = ⊤
 HearsItems (Some xs) None items = ⊥

@@ -53,7 +53,7 @@ abbrev pub IsLineEnd : Option (List ℕ) → List ℕ → Type 0
 IsLineEnd left (b ∷ rest) = b ≡ 10
 IsLineEnd left [] = IsAtEnd left
 
--- behind some lines stands this one, which is whole
+-- after some lines comes this one, which is whole
 pub record IsNext (policy : Policy) (left : Option (List ℕ)) (taken : List ℕ) (asked : List Asked) (line : List ℕ) (number : ℕ) : Type 0 where
   pub texts : List (List ℕ)
   pub rest : List ℕ
@@ -64,7 +64,7 @@ pub record IsNext (policy : Policy) (left : Option (List ℕ)) (taken : List ℕ
   pub nonempty : line ≢ []
   pub counted : number ≡ length texts + 1
 
--- behind some lines stands one that is too long
+-- after some lines comes one that is too long
 pub record IsTooLong (policy : Policy) (taken : List ℕ) (asked : List Asked) (number : ℕ) : Type 0 where
   pub front : IsFront policy taken asked
   pub long : HasLongLine front.rest
@@ -74,7 +74,7 @@ pub record IsTooLong (policy : Policy) (taken : List ℕ) (asked : List Asked) (
 abbrev pub IsOutside : List ℕ → Type 0
 IsOutside line = (call : Call) → IsCallLine line call → ⊥
 
--- behind these calls' lines stands one, with this number, that is no line of a client's script
+-- after these calls' lines comes one, with this number, that is no line of a client's script
 abbrev pub IsStuck : Policy → Option (List ℕ) → List ℕ → List Asked → ℕ → Type 0
 IsStuck policy left taken asked number =
     ((line : List ℕ) × IsNext policy left taken asked line number × IsOutside line) ⊎ IsTooLong policy taken asked number

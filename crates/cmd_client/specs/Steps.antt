@@ -14,7 +14,7 @@ pub record MakesStep (r : Stepped) (t : SessionState) (end : Option CallEnd) (se
   pub ended : end ≡ r.step.end
   pub gave : Gains sent sent' r.step.sends
 
--- a front of what a step sends was sent
+-- a prefix of what a step sends was sent
 pub record MakesPart (r : Stepped) (sent sent' : Option (List Datagram)) : Type 0 where
   pub front : List Datagram
   pub rest : List Datagram

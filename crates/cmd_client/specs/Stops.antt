@@ -19,7 +19,7 @@ pub record Went (t u : Talk) (old new : Outside) (steps : List Step) : Type 0 wh
   pub took : Took t old new steps (course t steps).sends (ends_text (course t steps).ends)
   pub left : u ≡ (course t steps).next
 
--- of the last step a front of the datagrams was sent
+-- of the last step a prefix of the datagrams was sent
 pub record CutsSends (asked : List Asked) (room : ℕ) (t : Talk) (old new : Outside) : Type 0 where
   pub before : List Step
   pub last : Step
@@ -30,7 +30,7 @@ pub record CutsSends (asked : List Asked) (room : ℕ) (t : Talk) (old new : Out
   pub asks : asked_in (before ++ last ∷ []) ≡ asked
   pub within : length (items_of (before ++ last ∷ [])) ≤ room
 
--- of the last step all was sent, and a front of the line was printed
+-- of the last step all was sent, and a prefix of the line was printed
 pub record CutsLine (asked : List Asked) (room : ℕ) (t : Talk) (old new : Outside) : Type 0 where
   pub before : List Step
   pub last : Step
@@ -57,7 +57,7 @@ pub record Goes (asked : List Asked) (t : Talk) (old new : Outside) (Then : Talk
   pub asks : asked_in steps ≡ asked
   pub then : Then behind steps
 
--- a call is open, none timed out, and the clock was asked behind each item
+-- a call is open, none timed out, and the clock was asked after each item
 abbrev pub Waits : Talk → Type 0
 Waits t = (t.over ≡ false) × (t.behind ≡ false) × IsOpen t.session.open_call
 

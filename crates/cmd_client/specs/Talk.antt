@@ -21,7 +21,7 @@ pub data Step : Type 0 where
   Hears : Item → Step
   Tells : ℕ → Step
 
--- a talk at a moment: the session, the count of ticks, whether an item was heard behind which the clock wasn't asked yet, and
+-- a talk at a moment: the session, the count of ticks, whether an item was heard after which the clock wasn't asked yet, and
 -- whether a call timed out, which ends the talk
 pub record Talk : Type 0 where
   pub session : SessionState
@@ -40,7 +40,7 @@ times_out (Some TimedOut) = true
 times_out (Some Rejected) = false
 times_out (Some (Reply payload)) = false
 
--- what comes of a step: the talk behind it, the datagrams to be sent, and the ends of calls
+-- what comes of a step: the talk after it, the datagrams to be sent, and the ends of calls
 pub record Outcome : Type 0 where
   pub next : Talk
   pub sends : List Datagram
@@ -87,7 +87,7 @@ abbrev pub IsOpen : Option OpenCall → Type 0
 IsOpen None = ⊥
 IsOpen (Some call) = Unit {0}
 
--- which step may come next, as long as no call timed out: a call where none is open, an item where one is, and behind each
+-- which step may come next, as long as no call timed out: a call where none is open, an item where one is, and after each
 -- item's turn a moment
 abbrev pub MayTake : Talk → Step → Type 0
 MayTake t (Asks policy body) = (t.over ≡ false) × (t.behind ≡ false) × (refusal t.session body ≡ None)

@@ -107,7 +107,7 @@ pub fn call_client<S: Source, K: Sink, L: Link, C: Clock>(
     ensures ran { Calls calling pace (S.left source.old) (S.left source.new)
         (outside (L.left link.old) (L.sent link.old) (C.left clock.old) (K.written sink.old)) (outside (L.left link.new) (L.sent link.new) (C.left clock.new) (K.written sink.new)) result }
 
-    // A script in its grammar, where nothing failed, ends as stated, or for want of memory.
+    // A script in its grammar, where nothing failed, ends as stated, or where memory runs out.
     ensures complete { (script : List ℕ) → S.left source.old ≡ Some script → IsScript script
         → (Rose (S.faults source.old) (S.faults source.new) → ⊥) → (Rose (K.faults sink.old) (K.faults sink.new) → ⊥)
         → (Rose (L.faults link.old) (L.faults link.new) → ⊥) → (Rose (C.faults clock.old) (C.faults clock.new) → ⊥) → IsCalled result }

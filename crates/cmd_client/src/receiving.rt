@@ -10,7 +10,7 @@ use r2_base::Event;
 use r2_link::{Got, Link, LinkFault};
 use std::alloc::Global;
 
-/// The event of what comes next. Behind the link's end all is quiet.
+/// The event of what comes next. After the link's end all is quiet.
 #[tactic(auto, using(crate::proofs::Passing::heard_items))]
 pub(crate) fn receive_event<L: Link>(
     alloc: Global,

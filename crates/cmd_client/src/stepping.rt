@@ -28,7 +28,7 @@ fn step_session(alloc: Global, session: &mut Session, event: &Event) -> Result<C
     }
 }
 
-/// Makes the step of an event, sends what it gives, and tells how the call ended, where it did.
+/// Makes the step of an event, sends what it gives, and says how the call ended, where it did.
 pub(crate) fn make_step<L: Link>(
     alloc: Global,
     session: &mut Session,

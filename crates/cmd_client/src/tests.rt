@@ -62,7 +62,7 @@ fn replies(alloc: Global) -> Result<Items, NoMemory> {
     Ok(Items::from_vec(items))
 }
 
-// The bytes of each datagram that was sent, and a dot behind each.
+// The bytes of each datagram that was sent, and a dot after each.
 fn sent(alloc: Global, link: &MemLink) -> Result<Vec<u8>, NoMemory> {
     let all = link.sent(alloc)?;
     let mut bytes = Vec::new(alloc);
@@ -80,7 +80,7 @@ struct Outcome {
     sent: Vec<u8>,
 }
 
-// A client's run over a link that brings these items, with a clock that tells these moments.
+// A client's run over a link that brings these items, with a clock that gives these moments.
 fn run_script(
     alloc: Global,
     script: &[u8],

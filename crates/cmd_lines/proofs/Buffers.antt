@@ -3,7 +3,7 @@ use Rattle.std.proofs.Common.{◌≡◌, ◌+◌, ◌-◌, ◌≤◌, ℕ, List,
 use Rattle.std.proofs.lemmas.List.{take-take, take-append-le, take_rest}
 use Rattle.std.proofs.Math.Seq.{take-append-add, take-append_seam}
 
--- the first bytes of a piece, behind those that stood there before room was made for it
+-- the first bytes of a piece, after those that were there before room was made for it
 pub behind_old : (v old zeros into post extra : List ℕ) (len : ℕ) (n count : ℕ) → v ≡ old ++ zeros → len ≡ length old → len + count ≤ n → count ≤ length into
     → take (len + count) (take n ((take len v ++ (into ++ post)) ++ extra)) ≡ old ++ take count into
 behind_old v old zeros into post extra len n count wide is inside within =
@@ -15,6 +15,6 @@ behind_old v old zeros into post extra len n count wide is inside within =
     ∙ take-append-add old (into ++ (post ++ extra)) count
     ∙ ap (λ (l : List ℕ). old ++ l) (take-append-le count into (post ++ extra) within)
 
--- what waits in a buffer is all that stands behind its start
+-- what waits in a buffer is all from its start on
 pub waiting : (whole items pending : List ℕ) (start : ℕ) → whole ≡ items → drop start items ≡ pending → take (length whole - start) (drop start whole) ≡ pending
 waiting whole items pending start same is = take_rest whole start ∙ ap (λ (l : List ℕ). drop start l) same ∙ is

@@ -27,7 +27,7 @@ same_cut (c ∷ x) (d ∷ y) a b p q e =
     let rests = same_cut x y a b (rest_of c x p) (rest_of d y q) (same_rest c d (x ++ 10 ∷ a) (y ++ 10 ∷ b) e) in
     (ap (λ z. z ∷ x) heads ∙ ap (λ z. d ∷ z) rests.0, rests.1)
 
--- a piece without an end of a line is no longer than what stands before the first one
+-- a piece without an end of a line is no longer than what comes before the first one
 pub no_longer : (x y a b : List ℕ) → All (λ b. b ≢ 10) y → x ++ 10 ∷ a ≡ y ++ b → length y ≤ length x
 no_longer x [] a b q e = omega arith
 no_longer [] (d ∷ y) a b q e = absurd (head_other d y q (sym (same_head 10 d a (y ++ b) e)))

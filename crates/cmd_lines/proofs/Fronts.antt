@@ -1,4 +1,4 @@
--- What can stand in front of bytes, and what excludes what.
+-- What bytes can begin with, and what excludes what.
 use Rattle.std.proofs.Common.{◌≢◌, ◌+◌, ◌<◌, inl, inr, ℕ, List, [], ◌∷◌, ◌++◌, All, length, take, drop, refl, sym, ap, subst, arith, take-append-drop, length-append}
 use Rattle.std.proofs.lemmas.List.{take-take, take_all, length-take-le}
 use Rattle.std.proofs.lemmas.List.Elements.{All-take, All-tail}
@@ -29,7 +29,7 @@ pub has_end : (xs ys : List ℕ) → All (λ b. b ≢ 10) (xs ++ 10 ∷ ys) → 
 has_end [] ys none = none 0 0 (omega arith) refl
 has_end (x ∷ xs) ys none = has_end xs ys (All-tail (λ b. b ≢ 10) x (xs ++ 10 ∷ ys) none)
 
--- the beginning of a line has no line in front
+-- the beginning of a line doesn't begin with a whole one
 pub line_is_no_part : (bytes : List ℕ) → HasLine bytes → IsText bytes → ⊥
 line_is_no_part bytes h part = has_end h.line h.rest (subst NoEnd h.split part.one_line)
 
@@ -40,7 +40,7 @@ long_is_no_part bytes h part =
 pub known_is_no_part : (bytes : List ℕ) → HasKnownLine bytes → IsText bytes → ⊥
 known_is_no_part bytes h part = elim h [ inl line ↦ line_is_no_part bytes line part | inr long ↦ long_is_no_part bytes long part ]
 
--- a line of a known length is one that stands in front
+-- where the first line's length is known, the bytes begin with a line
 pub line_of_len : (bytes : List ℕ) (len : ℕ) → IsLineLen bytes len → HasLine bytes
 line_of_len bytes len h = record { line = take len bytes; rest = drop (len + 1) bytes; text = h.text; split = h.split }
 

@@ -18,7 +18,7 @@ HasGiven-none s left = record {
   lines = omega arith;
 }
 
--- a call that handed out a line with its end behind it
+-- a call that handed out a line with its end after it
 pub HasGiven-line : (s t u : ReaderState) (a b c : Option (List ℕ)) (taken more line : List ℕ) (texts : List (List ℕ))
     → HasGiven s t a b taken texts → Consumes b c more → u.taken ≡ t.taken + length more → GivesLine t u more line
     → HasGiven s u a c (taken ++ more) (texts ++ line ∷ [])

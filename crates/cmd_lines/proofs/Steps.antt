@@ -11,7 +11,7 @@ use Rattle.cmd_lines.specs.Steps.{IsSound}
 use Rattle.std.specs.Io.KnownBytes.{Consumes}
 use Rattle.cmd_lines.proofs.Fronts.{known_is_no_part}
 
--- what stands behind in a text is one
+-- what is left of a text is one
 pub text_behind : (text : List ℕ) (n : ℕ) → IsText text → IsText (drop n text)
 text_behind text n is = record {
   one_line = All-drop (λ b. b ≢ 10) n text is.one_line;
@@ -63,7 +63,7 @@ pub record MayRead (s : ReaderState) : Type 0 where
   pub unfinished : IsText s.pending
   pub open_end : s.ended ≡ false
 
--- the bytes that a call took wait behind those that waited before, and they were needed
+-- the bytes that a call took wait after those that waited before, and they were needed
 pub record Waits (s t : ReaderState) (left left' : Option (List ℕ)) : Type 0 where
   pub taken : List ℕ
   pub took : Consumes left left' taken
@@ -88,7 +88,7 @@ both_nil : (xs ys : List ℕ) → xs ++ ys ≡ [] → (xs ≡ []) × (ys ≡ [])
 both_nil [] ys h = (refl, h)
 both_nil (x ∷ xs) ys h = absurd (cc)
 
--- what waits still, waits behind what waited before
+-- what still waits comes after what waited before
 still : (s t u : ReaderState) (taken : List ℕ) → t.pending ≡ s.pending ++ taken → t.lines ≡ s.lines → Holds t u [] → Holds s u taken
 still s t u taken waits lines held = record { waits = held.waits ∙ append-nil t.pending ∙ waits; lines = held.lines ∙ lines }
 

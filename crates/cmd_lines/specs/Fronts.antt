@@ -1,16 +1,16 @@
--- What stands in front of bytes that wait.
+-- What bytes that wait begin with.
 use Rattle.std.specs.Prelude.{◌≡◌, ℕ, ◌+◌, List, ◌∷◌, ◌++◌, take, drop}
 use Rattle.cmd_lines.specs.declared.front.Front.{Front}
 use Rattle.cmd_lines.specs.declared.front.Front.TheVariants.{Line, TooLong, Unfinished}
 use Rattle.cmd_lines.specs.Texts.{IsText}
 use Rattle.cmd_lines.specs.Reader.{HasLongLine}
 
--- a line of this length stands in front of the bytes, with its end
+-- the bytes begin with a line of this length and its end
 pub record IsLineLen (bytes : List ℕ) (len : ℕ) : Type 0 where
   pub text : IsText (take len bytes)
   pub split : bytes ≡ take len bytes ++ 10 ∷ drop (len + 1) bytes
 
--- what stands in front of the bytes
+-- what the bytes begin with
 abbrev pub IsFront : List ℕ → Front → Type 0
 IsFront bytes (Line len) = IsLineLen bytes len
 IsFront bytes TooLong = HasLongLine bytes

@@ -11,7 +11,7 @@ pub record AreToCome (s : ReaderState) (left : Option (List ℕ)) (bytes : List 
   pub told : left ≡ Some more
   pub joined : s.pending ++ more ≡ bytes
 
--- an answer where this text stands next with its end, and the rest behind it
+-- an answer where this text comes next with its end, and then the rest
 abbrev pub GivesNext : ReaderState → Option (List ℕ) → List ℕ → List ℕ → Result (Option (List ℕ)) LineFault → Type 0
 GivesNext t left text rest (Ok (Some line)) = (line ≡ text) × AreToCome t left rest
 GivesNext t left text rest (Ok None) = ⊥
@@ -29,12 +29,12 @@ GivesRest t left text (Err Source) = AreToCome t left text
 GivesRest t left text (Err Memory) = AreToCome t left text
 GivesRest t left text (Err Limit) = AreToCome t left text
 
--- the line that stands next is the one that is handed out
+-- the line that comes next is the one that is handed out
 abbrev pub NextLineIsGiven : Type 0
 NextLineIsGiven = (s t : ReaderState) (left left' : Option (List ℕ)) (answer : Result (Option (List ℕ)) LineFault) (text rest : List ℕ)
     → ReadsLine s t left left' answer → KnowsEnd t left' → AreToCome s left (text ++ 10 ∷ rest) → IsText text → GivesNext t left' text rest answer
 
--- what stands behind the last end is handed out as a line, if it is not empty, and then there is no more
+-- what comes after the last end is handed out as a line, if it is not empty, and then there is no more
 abbrev pub LastLineIsGiven : Type 0
 LastLineIsGiven = (s t : ReaderState) (left left' : Option (List ℕ)) (answer : Result (Option (List ℕ)) LineFault) (text : List ℕ)
     → ReadsLine s t left left' answer → KnowsEnd t left' → AreToCome s left text → IsText text → GivesRest t left' text answer

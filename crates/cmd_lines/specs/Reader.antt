@@ -13,14 +13,14 @@ pub record ReaderState : Type 0 where
   pub lines : ℕ
   pub ended : Bool
 
--- a line stands in front of the bytes, with its end
+-- the bytes begin with a line and its end
 pub record HasLine (bytes : List ℕ) : Type 0 where
   pub line : List ℕ
   pub rest : List ℕ
   pub text : IsText line
   pub split : bytes ≡ line ++ 10 ∷ rest
 
--- a line that is too long stands in front of the bytes: 8,193 bytes of it, and no end among them
+-- the bytes begin with a line that is too long: 8,193 bytes of it, and no end among them
 pub record HasLongLine (bytes : List ℕ) : Type 0 where
   pub bad : List ℕ
   pub rest : List ℕ
@@ -32,7 +32,7 @@ pub record HasLongLine (bytes : List ℕ) : Type 0 where
 abbrev pub HasKnownLine : List ℕ → Type 0
 HasKnownLine bytes = HasLine bytes ⊎ HasLongLine bytes
 
--- a line was handed out with its end behind it
+-- a line was handed out with its end after it
 pub record GivesLine (s t : ReaderState) (taken line : List ℕ) : Type 0 where
   pub text : IsText line
   pub split : s.pending ++ taken ≡ line ++ 10 ∷ t.pending
@@ -56,7 +56,7 @@ pub record GivesNone (s t : ReaderState) (taken : List ℕ) : Type 0 where
   pub lines : t.lines ≡ s.lines
   pub ended : t.ended ≡ true
 
--- no line was handed out: what was taken waits behind what waited before
+-- no line was handed out: what was taken waits after what waited before
 pub record Holds (s t : ReaderState) (taken : List ℕ) : Type 0 where
   pub waits : t.pending ≡ s.pending ++ taken
   pub lines : t.lines ≡ s.lines

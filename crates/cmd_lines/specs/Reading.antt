@@ -4,7 +4,7 @@ use Rattle.std.specs.Io.KnownBytes.{Consumes}
 use Rattle.cmd_lines.specs.Texts.{IsText, fed}
 use Rattle.cmd_lines.specs.Reader.{ReaderState}
 
--- between two states of a reader these bytes were taken of the source, and these lines were handed out, each with its end behind it
+-- between two states of a reader these bytes were taken of the source, and these lines were handed out, each with its end after it
 pub record HasGiven (s t : ReaderState) (left left' : Option (List ℕ)) (taken : List ℕ) (texts : List (List ℕ)) : Type 0 where
   pub took : Consumes left left' taken
   pub counted : t.taken ≡ s.taken + length taken

@@ -14,7 +14,7 @@ pub record IsSound (s : ReaderState) : Type 0 where
   pub most : s.taken ≤ most_taken
   pub last : s.ended ≡ true → IsText s.pending
 
--- a read put so many bytes behind a buffer, at most this many and 4,096, and none only at the end
+-- a read appended so many bytes to a buffer, at most this many and 4,096, and none only at the end
 pub record AppendsRead (left left' : Option (List ℕ)) (old new : List ℕ) (most count : ℕ) : Type 0 where
   pub piece : List ℕ
   pub took : Consumes left left' piece

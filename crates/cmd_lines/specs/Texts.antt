@@ -1,4 +1,4 @@
--- Texts, and how they stand in a source as lines.
+-- Texts, and how a source has them as lines.
 use Rattle.std.specs.Prelude.{◌≢◌, ℕ, ◌≤◌, List, [], ◌∷◌, ◌++◌, length, All}
 use Rattle.std.specs.List.{flat_map}
 
@@ -7,6 +7,6 @@ pub record IsText (text : List ℕ) : Type 0 where
   pub one_line : All (λ b. b ≢ 10) text
   pub short : length text ≤ 8192
 
--- texts as they stand in a source, each with its end
+-- texts as a source has them, each with its end
 unfoldable pub fed : List (List ℕ) → List ℕ
 fed texts = flat_map (λ text. text ++ 10 ∷ []) texts

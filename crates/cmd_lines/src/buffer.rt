@@ -19,7 +19,7 @@ pub(crate) fn drop_front(buffer: &mut Vec<u8>, start: usize)
     buffer.truncate(len);
 }
 
-/// Reads at most 4,096 bytes, and at most `most`, and puts them behind the buffer. It gives how many these are, none only at
+/// Reads at most 4,096 bytes, and at most `most`, and appends them to the buffer. It gives how many these are, none only at
 /// the end. The memory is found before the source is read.
 pub(crate) fn read_behind<S: Source>(
     buffer: &mut Vec<u8>,

@@ -7,7 +7,7 @@ const LINE_END: u8 = 10;
 /// How many bytes a line may have before its end.
 const LINE_LIMIT: usize = 8_192;
 
-/// What stands in front of bytes that wait.
+/// What bytes that wait begin with.
 #[derive(Clone, Copy, Debug, PartialEq, Eq)]
 pub(crate) enum Front {
     /// A line of this length, and its end.
@@ -18,7 +18,7 @@ pub(crate) enum Front {
     Unfinished,
 }
 
-/// How many bytes stand before the first end of a line.
+/// How many bytes come before the first end of a line.
 fn place_of_end(bytes: &[u8]) -> Option<usize>
     ensures found { IfSome result (λ n. bytes.now ≡ take n bytes.now ++ 10 ∷ drop (n + 1) bytes.now) }
     ensures first { IfSome result (λ n. All (λ b. b ≢ 10) (take n bytes.now)) }
@@ -28,7 +28,7 @@ fn place_of_end(bytes: &[u8]) -> Option<usize>
     bytes.iter().position(|b| *b == LINE_END)
 }
 
-/// What stands in front of the bytes.
+/// What the bytes begin with.
 pub(crate) fn front_of(bytes: &[u8]) -> Front
     ensures { IsFront bytes.now result }
 {

@@ -3,12 +3,12 @@
 
 ghost use Rattle.cmd_lines.specs.Laws.{LastLineIsGiven, NextLineIsGiven};
 
-/// Where a line of at most 8,192 bytes stands next, the answer is that line, or a fault that leaves it to come.
+/// Where a line of at most 8,192 bytes comes next, the answer is that line, or a fault that leaves it to come.
 pub fn the_next_line_is_given()
     ensures { NextLineIsGiven }
 {}
 
-/// What stands behind the last end is the last line, if it is not empty.
+/// What comes after the last end is the last line, if it is not empty.
 pub fn the_last_line_is_given()
     ensures { LastLineIsGiven }
 {}

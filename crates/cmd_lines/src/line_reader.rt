@@ -150,7 +150,7 @@ impl LineReader {
         }
     }
 
-    /// The next line without its end, or `None` behind the last one.
+    /// The next line without its end, or `None` after the last one.
     ///
     /// The source is read only while no line is known in what was taken, and not again once its end was reached. Where there is
     /// no answer, nothing is lost: what was taken waits, so that a call after `Source` or `Memory` goes on there, and one after

@@ -260,7 +260,7 @@ Breaks-none s m p piece a b kept =
       gave = AppendsFront-nothing a b (turns_text s m []) kept;
     }
 
--- want of memory for a byte more
+-- memory runs out at a byte more
 pub Breaks-byte : (s : Setup) (m : Member) (p : List ℕ) (a : Option (List ℕ)) (byte : ℕ) → Keeps a a → Breaks s m p a a (byte ∷ [])
 Breaks-byte s m p a byte kept = Breaks-none s m p (byte ∷ []) a a kept
 

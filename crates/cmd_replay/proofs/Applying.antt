@@ -78,7 +78,7 @@ pub drop-at : (log : List Stored) (i : ℕ) (stored : Stored) → slice_get log 
 drop-at log i stored e =
     drop_more log i stored (slice_get_within log i stored e) ∙ ap (λ x. x ∷ drop (i + 1) log) (get_or_from_slice_get log i stored stored e)
 
--- where the entries from an index on begin with this one, it stands there, and the others stand behind it
+-- where the entries from an index on begin with this one, it is found there, and the others come after it
 pub record IsFirst (log : List Stored) (i : ℕ) (stored : Stored) (more : List Stored) : Type 0 where
   pub there : slice_get log i ≡ Some stored
   pub behind : drop (i + 1) log ≡ more
@@ -95,7 +95,7 @@ is_first log i stored more e =
     let next : i + 1 ≡ suc i = omega arith in
     record { there = first.0; behind = ap (λ (k : ℕ). drop k log) next ∙ first.1 }
 
--- a batch is its first entry, and the batch behind it
+-- a batch is its first entry, and the batch after it
 pub applied_all-next : (s : Setup) (m n : Member) (more : ℕ) (stored : Stored) → slice_get m.log m.applied ≡ Some stored
     → n ≡ (applied_one s m stored).member
     → applied_all s m (take (suc more) (drop m.applied m.log))

@@ -12,14 +12,14 @@ use Rattle.hc_log.specs.Log.{requests_of}
 use Rattle.hc_log.proofs.Counting.{requests_of-append}
 use Rattle.cmd_replay.specs.Operations.{is_write, writes_of, is_read, own_reads_of}
 
--- a front of a log has no more requests than the log
+-- a prefix of a log has no more requests than the log
 requests_of-front : (n : ℕ) (log : List Stored) → requests_of (take n log) ≤ requests_of log
 requests_of-front n log =
     let both = requests_of-append (take n log) (drop n log) in
     let all = ap requests_of (take-append-drop n log) in
     omega (arith, both, all)
 
--- a front that is one entry longer
+-- a prefix that is one entry longer
 pub front-next : (log : List Stored) (i : ℕ) (stored : Stored) → slice_get log i ≡ Some stored → take (i + 1) log ≡ take i log ++ stored ∷ []
 front-next log i stored there =
     take_more log i stored (slice_get_within log i stored there) ∙ ap (λ (x : Stored). take i log ++ x ∷ []) (get_or_from_slice_get log i stored stored there)
@@ -30,7 +30,7 @@ count-append p xs ys = sum_by-append (λ s. cond (p s) 1 0) xs ys
 count-cons : (p : Stored → Bool) (x : Stored) (xs : List Stored) → count_by p (x ∷ xs) ≡ cond (p x) 1 0 + count_by p xs
 count-cons p x xs = sum_by-cons (λ s. cond (p s) 1 0) x xs
 
--- a front that is one entry longer counts that entry too
+-- a prefix that is one entry longer counts that entry too
 count-next : (p : Stored → Bool) (log : List Stored) (i : ℕ) (stored : Stored) → slice_get log i ≡ Some stored
     → count_by p (take (i + 1) log) ≡ count_by p (take i log) + cond (p stored) 1 0
 count-next p log i stored there =
@@ -70,7 +70,7 @@ read_asks Write own = omega arith
 read_asks Read true = omega arith
 read_asks Read false = omega arith
 
--- a front of a log has no more requests of either kind than the log has requests
+-- a prefix of a log has no more requests of either kind than the log has requests
 pub writes_of-front : (n : ℕ) (log : List Stored) → writes_of (take n log) ≤ requests_of log
 unfolding writes_of requests_of
 writes_of-front n log =

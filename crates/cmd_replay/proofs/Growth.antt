@@ -145,7 +145,7 @@ abbrev pub reaction : Setup → Member → ℕ → ℕ → Member → List Datag
 reaction s m last keep n sends =
     record { member = settled s keep n; stored = stored_of m.term m.vote last keep (settled s keep n); sends = sends }
 
--- a reaction in a group of one, from the member behind the row and what the row sends
+-- a reaction in a group of one, from the member after the row and what the row sends
 pub reacted_to-from : (s : Setup) (m n : Member) (said : Heard) (keep : ℕ) (sends : List Datagram) → keep ≡ length m.log
     → n ≡ (row s m said).member → sends ≡ (row s m said).sends → reacted_to s m said ≡ reaction s m keep keep n sends
 unfolding reacted_to

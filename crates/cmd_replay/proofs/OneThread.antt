@@ -32,7 +32,7 @@ use Rattle.cmd_replay.proofs.Replayed.{applied_one-replayed}
 use Rattle.cmd_replay.proofs.Sound.{sound-begin, sound-restarted, sound-due, length-batch_of}
 use Rattle.cmd_replay.proofs.Growth.{sound-turned}
 
--- the reply to the next entry is what one thread would answer behind the entries that were applied
+-- the reply to the next entry is what one thread would answer after the entries that were applied
 reply-next : (m : Member) (stored : Stored) → slice_get m.log m.applied ≡ Some stored → m.service.contents ≡ contents_after (take m.applied m.log)
     → reply_at (operations m.log) (suc m.applied) ≡ entry_reply m.service.contents (suc m.applied) stored.entry.kind stored.body
 unfolding reply_at operations
@@ -42,7 +42,7 @@ reply-next m stored there is =
     ∙ ap (λ (front : List Operation). answer (after_all finite.empty front) (operation_of stored)) (take-map operation_of m.applied m.log)
     ∙ ap (λ (c : Contents). answer c (operation_of stored)) (sym is)
 
--- a step gives these replies: they go out, and are kept behind the others
+-- a step gives these replies: they go out, and are kept after the others
 record Gives (s : Setup) (m : Member) (step : Sent) (replies : List KeptReply) : Type 0 where
   sends : step.sends ≡ flat_map (datagrams_of s) replies
   kept : step.member.kept ≡ fold kept_with m.kept replies

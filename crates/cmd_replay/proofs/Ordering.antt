@@ -30,7 +30,7 @@ unfolding ordered
 ordered-none bound zero m e = refl
 ordered-none bound (suc room) m e = ap (gone_on (ordered bound room) m) e
 
--- where a request may be ordered, ordering goes on behind it
+-- where a request may be ordered, ordering goes on after it
 pub ordered-some : (bound room : ℕ) (m next : Member) → order_next bound m ≡ Some next → ordered bound (suc room) m ≡ ordered bound room next
 unfolding ordered
 ordered-some bound room m next e = ap (gone_on (ordered bound room) m) e

@@ -1,4 +1,4 @@
--- Each part of a turn leaves an orderly member where it found one, with a durable state that comes behind the one before.
+-- Each part of a turn leaves an orderly member where it found one, with a durable state that comes after the one before.
 use Rattle.std.proofs.Common.{◌≡◌, ℕ, ◌+◌, ◌-◌, ◌<◌, ◌≤◌, ◌^◌, Bool, true, false, List, [], ◌∷◌, ◌++◌, length, take, drop, Option, None, Some, refl, sym, ap, subst, ◌∙◌, arith, zero, suc, inl, inr, length-take}
 use Rattle.std.specs.Prelude.{nat_lt, nat_le, ◌&&◌, ◌||◌, ◌==◌, if◌then◌else◌, cond, All, MatchOption, slice_index_or}
 use Rattle.std.specs.List.{position}
@@ -37,7 +37,7 @@ use Rattle.cmd_replay.specs.Queues.{fewest, choose}
 use Rattle.cmd_replay.specs.Turn.{batched, due, pooled, request_row, answered_again, stays, with_received, waited, is_impatient, patience, stood, won, ticked, row, tick_row, entry_of, order_to, order_from, order_next, gone_on, ordered, ordering, counting, settled}
 use Rattle.cmd_replay.proofs.Ordering.{has_room-parts}
 
--- a durable state comes behind another: its term isn't lower, a term keeps its vote, and the log still begins as it was
+-- a durable state comes after another: its term isn't lower, a term keeps its vote, and the log still begins as it was
 pub record Behind (d e : State) : Type 0 where
   pub term : d.term ≤ e.term
   pub vote : d.term ≡ e.term → e.vote ≡ d.vote
@@ -59,7 +59,7 @@ behind-then d e f first rest =
           ∙ first.front;
     }
 
--- an orderly member, whose durable state comes behind this one
+-- an orderly member, whose durable state comes after this one
 pub record GoesTo (d e : State) (pool : List Request) (queues : List (List ℕ)) : Type 0 where
   pub orderly : AreOrderly e pool queues
   pub behind : Behind d e
@@ -137,7 +137,7 @@ request-follows d r replier valid is_set may apart within room =
       limits = record { entries = omega (arith, long, has.entries); requests = omega (arith, asks, has.requests); body_bytes = omega (arith, bytes, has.body_bytes) };
     }
 
--- a request that doesn't stand in a log doesn't stand in it with one entry more that isn't its own
+-- a request that isn't in a log isn't in it with one entry more that isn't its own
 stands-one : (rid : Rid) (log : List Stored) (s : Stored) → stands_in rid log ≡ false → asks_as rid s ≡ false → stands_in rid (log ++ s ∷ []) ≡ false
 unfolding stands_in
 stands-one rid log s apart other = stands_in_both rid log (s ∷ []) ∙ rw (apart, other) refl
@@ -278,7 +278,7 @@ module _ (s : Setup) (alone : IsAlone s) where
       let inner = and_parts (nat_le (patience s) m.silent) (nat_lt m.term (2 ^ 62)) outer.0 in
       (ltb-true m.term (2 ^ 62) inner.1, ltb-true (length m.log) (2 ^ 62) outer.1)
 
-  -- the log of a member that stands may be followed by the blank entry of its term
+  -- the log of a member that stands for election may be followed by the blank entry of its term
   pub stood-follows : (m : Member) → IsOrderly m → is_impatient s m ≡ true → MayFollow (stood s m).log (blank_of (stood s m).term)
   unfolding stood
   stood-follows m h e =

@@ -18,7 +18,7 @@ pub sent_one_more : (a b c : Option (List ℕ)) (sends : List Datagram) (i : ℕ
 sent_one_more a b c sends i d inside is before now =
     rw (one_more sends i d inside is) (Appends-trans a b c (flat_map out_text (take i sends)) (out_text d) before now)
 
--- the lines so far, and a front of the line of the next datagram
+-- the lines so far, and a prefix of the line of the next datagram
 pub sent_in_part : (a b c : Option (List ℕ)) (sends : List Datagram) (i : ℕ) (d : Datagram) → i < length sends → d ≡ get_or sends i d → Appends a b (flat_map out_text (take i sends)) → AppendsFront b c (out_text d) → AppendsFront a c (flat_map out_text sends)
 sent_in_part a b c sends i d inside is before cut =
     let so_far : AppendsFront a c (flat_map out_text (take (i + 1) sends)) = rw (one_more sends i d inside is) (AppendsFront-then a b c (flat_map out_text (take i sends)) (out_text d) cut before) in

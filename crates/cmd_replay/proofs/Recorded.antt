@@ -39,7 +39,7 @@ durable-anew : (d : State) → durable_of (anew d) ≡ d
 unfolding anew
 durable-anew d = refl
 
--- what was stored, behind records that led to the state before it
+-- what was stored, after records that led to the state before it
 history-more : (records : List Record) (d e : State) (stored : Option Record) → LeadsTo d stored e → IsHistory records → replay records ≡ d → IsHistory (records ++ stored_list stored)
 history-more records d e None leads history state = subst IsHistory (sym (append-nil records)) history
 history-more records d e (Some r) leads history state = IsHistory-push records r history (subst (λ (x : State). IsNext x r) (sym state) leads.0)
@@ -49,7 +49,7 @@ state-more records d e None leads state = ap replay (append-nil records) ∙ sta
 state-more records d e (Some r) leads state = replay_push records r ∙ ap (λ (x : State). log.after x r) state ∙ leads.1
 
 module _ (s : Setup) (alone : IsAlone s) where
-  -- a turn, and its record behind the others
+  -- a turn, and its record after the others
   pub recorded-turned : (m : Member) (event : Event) (records : List Record) → IsRecorded s m records
       → IsRecorded s (turned s m event).member (records ++ stored_list (turned s m event).stored)
   recorded-turned m event records h =

@@ -17,7 +17,7 @@ use Rattle.cmd_replay.specs.Turn.{served_next, passed_over, entry_applied, appli
 use Rattle.cmd_replay.proofs.Counts.{front-next, writes_of-next, own_reads_of-next}
 use Rattle.cmd_replay.proofs.Applying.{is_first, applied_one-leaves}
 
--- entries behind others are served behind them
+-- entries after others are served after them
 after_all-append : (contents : Contents) (first second : List Operation) → after_all contents (first ++ second) ≡ after_all (after_all contents first) second
 unfolding after_all
 after_all-append contents [] second = refl
@@ -31,7 +31,7 @@ operations-more : (log : List Stored) (stored : Stored) → operations (log ++ s
 unfolding operations
 operations-more log stored = map-append operation_of log (stored ∷ [])
 
--- what is kept behind one entry more
+-- what is kept after one entry more
 contents_after-next : (log : List Stored) (i : ℕ) (stored : Stored) → slice_get log i ≡ Some stored
     → contents_after (take (i + 1) log) ≡ after_entry (contents_after (take i log)) stored.entry.kind stored.body
 contents_after-next log i stored there =

@@ -29,7 +29,7 @@ line_end : (left : Option (List ℕ)) (bad rest : List ℕ) → EndsInside bad r
 line_end left bad [] h = inr h
 line_end left bad (b ∷ rest) h = h
 
--- a text that is no line, behind what was taken before
+-- a text that is no line, after what was taken before
 stuck-of : (s : Setup) (left : Option (List ℕ)) (a b : Option (List ℕ)) (taken : List ℕ) (line : ℕ) → Sticks s begin [] 0 line a b taken
     → (lines : List Line) × IsStuck left taken lines line × Appends a b (turns_text s begin lines)
 stuck-of s left a b taken line h =
@@ -49,7 +49,7 @@ stuck-of s left a b taken line h =
     } in
     (h.lines, is, h.gave)
 
--- what stopped a piece behind what was taken before
+-- what stopped a piece, after what was taken before
 pub stopped-of : (s : Setup) (left : Option (List ℕ)) (a b : Option (List ℕ)) (taken : List ℕ) (status : Status) → StopsPiece s begin [] 0 a b taken status → Replays s left taken a b status
 stopped-of s left a b taken (BadScript line) h = stuck-of s left a b taken line h
 stopped-of s left a b taken SinkFault h =

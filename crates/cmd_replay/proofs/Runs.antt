@@ -92,7 +92,7 @@ module _ (s : Setup) (m : Member) (text : List ℕ) (line : Line) where
   stops-line number old new f f' TurnsSpent why known front = absurd why
   stops-line number old new f f' (BadScript n) why known front = absurd why
 
--- what a test for an empty text tells
+-- what a test for an empty text shows
 pub empty_text : (text : List ℕ) (b : Bool) → b ≡ (length text == 0) → b ≡ true → text ≡ []
 empty_text text b is e = nil_from_length text (eqb-true (length text) 0 (sym is ∙ e))
 

@@ -13,7 +13,7 @@ use Rattle.cmd_replay.proofs.Advance.{fed-none}
 abbrev NoEnd : List ℕ → Type 0
 NoEnd text = All (λ b. b ≢ 10) text
 
--- the text has a line's end behind it, or is too long
+-- the text has a line's end after it, or is too long
 abbrev Ends : List ℕ → List ℕ → Type 0
 Ends text behind = ((more : List ℕ) × (behind ≡ 10 ∷ more)) ⊎ (8192 < length text)
 
@@ -43,7 +43,7 @@ same_cut (c ∷ x) (d ∷ y) a b p q e =
     let rests = same_cut x y a b (rest_of c x p) (rest_of d y q) (same_rest c d (x ++ 10 ∷ a) (y ++ 10 ∷ b) e) in
     (ap (λ z. z ∷ x) heads ∙ ap (λ z. d ∷ z) rests.0, rests.1)
 
--- a piece without an end of a line is no longer than what stands before the first one
+-- a piece without an end of a line is no longer than what comes before the first one
 no_longer : (x y a b : List ℕ) → NoEnd y → x ++ 10 ∷ a ≡ y ++ b → length y ≤ length x
 no_longer x [] a b q e = omega arith
 no_longer [] (d ∷ y) a b q e = absurd (head_other d y q (sym (same_head 10 d a (y ++ b) e)))
@@ -55,7 +55,7 @@ fed-cons : (text : List ℕ) (texts : List (List ℕ)) → fed (text ∷ texts) 
 unfolding fed
 fed-cons text texts = append_assoc text (10 ∷ []) (fed texts)
 
--- with an end behind its last text too, a script is its texts, each with its end
+-- with an end after its last text too, a script is its texts, each with its end
 fed-last : (texts : List (List ℕ)) (last : List ℕ) → (fed texts ++ last) ++ 10 ∷ [] ≡ fed (texts ++ last ∷ [])
 unfolding fed
 fed-last texts last =
@@ -108,14 +108,14 @@ one_among (t ∷ known) (x ∷ texts) bad behind each at same one_line nonempty 
 at_end : (left : Option (List ℕ)) (more : List ℕ) → left ≡ Some more → IsAtEnd left → more ≡ []
 at_end left more is ended = subst IsAtEnd is ended
 
--- where a script is cut at a line's end or at its own, there is an end of a line behind, once its last text has one too
+-- where a script is cut at a line's end or at its own, an end of a line follows, once its last text has one too
 end_behind : (left : Option (List ℕ)) (more bad rest : List ℕ) → left ≡ Some more → IsLineEnd left bad rest → Ends bad ((rest ++ more) ++ 10 ∷ [])
 end_behind left more bad [] is (inl ended) = inl ([], ap (λ x. x ++ 10 ∷ []) (at_end left more is ended))
 end_behind left more bad [] is (inr long) = inr long
 end_behind left more bad (b ∷ rest) is (inl end) = inl ((rest ++ more) ++ 10 ∷ [], ap (λ x. x ∷ ((rest ++ more) ++ 10 ∷ [])) end)
 end_behind left more bad (b ∷ rest) is (inr long) = inr long
 
--- what was taken and what is left, with an end behind
+-- what was taken and what is left, and then an end of a line
 joined : (script taken more front bad rest : List ℕ) → script ≡ taken ++ more → taken ≡ front ++ bad ++ rest → script ++ 10 ∷ [] ≡ front ++ (bad ++ ((rest ++ more) ++ 10 ∷ []))
 joined script taken more front bad rest took split =
     ap (λ x. x ++ 10 ∷ []) (took ∙ ap (λ x. x ++ more) split ∙ append_assoc (front ++ bad) rest more)

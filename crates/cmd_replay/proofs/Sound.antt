@@ -45,7 +45,7 @@ nothing_asked : requests_of [] ≤ 1048576
 unfolding requests_of
 nothing_asked = omega arith
 
--- an entry more at the end of a log leaves its front
+-- an entry more at the end of a log leaves its prefixes unchanged
 front-stays : (log : List Stored) (stored : Stored) (n : ℕ) → n ≤ length log → take n log ≡ take n (log ++ stored ∷ [])
 front-stays log stored n within = sym (take-append-le n log (stored ∷ []) within)
 

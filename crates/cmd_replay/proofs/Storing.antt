@@ -1,4 +1,4 @@
--- What a turn stores leads from the durable state before it to the one behind it.
+-- What a turn stores leads from the durable state before it to the one after it.
 use Rattle.std.proofs.Common.{◌≡◌, ℕ, ◌+◌, ◌<◌, ◌≤◌, Bool, true, false, List, [], ◌∷◌, length, Option, None, Some, refl, sym, ap, subst, ◌∙◌, arith, inl, inr, length-drop}
 use Rattle.std.specs.Prelude.{◌&&◌, ◌==◌, not, if◌then◌else◌, slice_index_or, filter, nat_lt, IfSome}
 use Rattle.std.proofs.lemmas.Bool.{and_parts, cases_lt, eqb-true}
@@ -220,7 +220,7 @@ module _ (s : Setup) (alone : IsAlone s) where
       let n = (finished s m).member in
       orderly-reacted n event (sound-finished s m sound) (orderly-kept m n (keeps-finished s m) h)
 
-  -- its record leads from the durable state before it to the one behind it
+  -- its record leads from the durable state before it to the one after it
   pub leads-turned : (m : Member) (event : Event) → IsSound s m → IsOrderly m → LeadsTo (durable_of m) (turned s m event).stored (durable_of (turned s m event).member)
   unfolding turned
   leads-turned m event sound h =

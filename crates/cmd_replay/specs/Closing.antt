@@ -10,7 +10,7 @@ use Rattle.cmd_status.specs.declared.status.Status.TheVariants.{Done, BadWords, 
 use Rattle.cmd_replay.specs.Script.{AreLines, after, turns_text, last_text}
 use Rattle.cmd_replay.specs.Playback.{IsRefused}
 
--- what the last text prints as a line, and what the member prints behind it
+-- what the last text prints as a line, and what the member prints after it
 abbrev pub ending_text : Setup → Member → List Line → List ℕ
 ending_text s m lines = turns_text s m lines ++ last_text s (after s m lines)
 
@@ -20,7 +20,7 @@ pub record Closes (s : Setup) (m : Member) (text : List ℕ) (old new : Option (
   pub known : AreLines (text ∷ []) lines
   pub gave : Appends old new (ending_text s m lines)
 
--- nothing was written at the end, or a front of what is to be
+-- nothing was written at the end, or a prefix of what is to be
 abbrev pub WritesEnd : Setup → Member → List ℕ → Option (List ℕ) → Option (List ℕ) → Type 0
 WritesEnd s m text old new =
     Keeps old new ⊎ ((lines : List Line) × AreLines (text ∷ []) lines × AppendsFront old new (ending_text s m lines))

@@ -14,7 +14,7 @@ same_vote (Some a) (Some b) = a == b
 same_vote None None = true
 same_vote _ _ = false
 
--- what was stored may come next behind a durable state, and leads to the one behind it; without a record the state stays
+-- what was stored may come next after a durable state, and leads to the one after it; without a record the state stays
 abbrev pub LeadsTo : State → Option Record → State → Type 0
 LeadsTo d (Some r) e = IsNext d r × (after d r ≡ e)
 LeadsTo d None e = e ≡ d

@@ -26,7 +26,7 @@ own_reply s (Some stored) (Some payload) = if stored.entry.replier == s.me then 
 own_reply s (Some stored) None = []
 own_reply s None payload = []
 
--- the replies that this member is to give to so many entries behind an index: those of the one-thread service
+-- the replies that this member is to give to so many entries after an index: those of the one-thread service
 unfoldable pub own_replies : Setup → List Stored → ℕ → ℕ → List KeptReply
 own_replies s log index zero = []
 own_replies s log index (suc more) =
@@ -43,9 +43,9 @@ pub record IsOneThread (s : Setup) (m : Member) : Type 0 where
   pub sends : (finished s m).sends ≡ flat_map (datagrams_of s) (own_replies s m.log m.applied (due m).pending)
   pub kept : (finished s m).member.kept ≡ fold kept_with m.kept (own_replies s m.log m.applied (due m).pending)
 
--- the records of the turns that these lines make, and the member behind them
+-- the records of the turns that these lines make, and the member after them
 pub record LeadToTheMember (s : Setup) (lines : List Line) : Type 0 where
-  -- each may come next behind those before it
+  -- each may come next after those before it
   pub history : IsHistory (records_of s begin lines)
   -- one after another, they lead to what the member keeps over a crash
   pub state : replay (records_of s begin lines) ≡ durable_of (after s begin lines)

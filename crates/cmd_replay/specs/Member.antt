@@ -41,7 +41,7 @@ anew d =
 abbrev pub begin : Member
 begin = anew begun
 
--- a member behind a restart: its term, its vote and its log stay, all else is new
+-- a member after a restart: its term, its vote and its log stay, all else is new
 abbrev pub restarted : Member → Member
 restarted m = anew (durable_of m)
 

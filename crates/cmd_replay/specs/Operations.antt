@@ -41,7 +41,7 @@ is_read Read = true
 unfoldable pub own_reads_of : ℕ → List Stored → ℕ
 own_reads_of me log = count_by (λ s. is_read s.entry.kind && (s.entry.replier == me)) log
 
--- the service of a member behind these entries: it keeps what one thread would, and has executed each request to write
+-- the service of a member after these entries: it keeps what one thread would, and has executed each request to write
 -- and each request to read that was this member's to answer
 pub record IsReplayed (me : ℕ) (entries : List Stored) (service : State) : Type 0 where
   pub contents : service.contents ≡ contents_after entries

@@ -9,14 +9,14 @@ use Rattle.cmd_status.specs.declared.status.Status.{Status}
 use Rattle.cmd_status.specs.declared.status.Status.TheVariants.{Done, BadWords, BadScript, Memory, SourceFault, SinkFault, LinkFault, ClockFault, TimedOut, IdsUsed, TurnsSpent}
 use Rattle.cmd_replay.specs.Script.{IsText, AreLines, IsOutside, fed, after, turns_text}
 
--- the texts were run as lines: the member behind them, and what they printed
+-- the texts were run as lines: the member after them, and what they printed
 pub record Ran (s : Setup) (m n : Member) (texts : List (List ℕ)) (old new : Option (List ℕ)) : Type 0 where
   pub lines : List Line
   pub known : AreLines texts lines
   pub at : n ≡ after s m lines
   pub gave : Appends old new (turns_text s m lines)
 
--- nothing was written for the text, or a front of what it prints as a line
+-- nothing was written for the text, or a prefix of what it prints as a line
 abbrev pub WritesFront : Setup → Member → List ℕ → Option (List ℕ) → Option (List ℕ) → Type 0
 WritesFront s m text old new =
     Keeps old new ⊎ ((lines : List Line) × AreLines (text ∷ []) lines × AppendsFront old new (turns_text s m lines))
@@ -55,7 +55,7 @@ abbrev pub EndsInside : List ℕ → List ℕ → Type 0
 EndsInside line (b ∷ rest) = (b ≡ 10) ⊎ (8192 < length line)
 EndsInside line [] = 8192 < length line
 
--- behind some lines of a piece stands a text that is none, the one with this number
+-- after some lines of a piece comes a text that is none, the one with this number
 pub record Sticks (s : Setup) (m : Member) (before : List ℕ) (count line : ℕ) (old new : Option (List ℕ)) (piece : List ℕ) : Type 0 where
   pub texts : List (List ℕ)
   pub lines : List Line
@@ -70,7 +70,7 @@ pub record Sticks (s : Setup) (m : Member) (before : List ℕ) (count line : ℕ
   pub number : line ≡ count + length texts + 1
   pub gave : Appends old new (turns_text s m lines)
 
--- a front of what some lines of a piece print was written
+-- a prefix of what some lines of a piece print was written
 pub record Breaks (s : Setup) (m : Member) (before : List ℕ) (old new : Option (List ℕ)) (piece : List ℕ) : Type 0 where
   pub texts : List (List ℕ)
   pub lines : List Line

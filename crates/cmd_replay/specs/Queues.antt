@@ -9,7 +9,7 @@ new_queues members = replicate members []
 abbrev pub fewest : ℕ → List (List ℕ) → ℕ
 fewest bound queues = fold min bound (map length queues)
 
--- the member with the fewest, the lowest number first; none where each stands at the bound
+-- the member with the fewest, the lowest number first; none where each is at the bound
 unfoldable pub choose : ℕ → List (List ℕ) → Option ℕ
 choose bound queues =
     if nat_lt (fewest bound queues) bound then position (λ queue. length queue == fewest bound queues) queues else None

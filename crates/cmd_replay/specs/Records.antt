@@ -19,7 +19,7 @@ unfoldable pub records_of : Setup → Member → List Line → List Record
 records_of s m [] = []
 records_of s m (line ∷ lines) = stored_list (line_turn s m line).stored ++ records_of s (line_turn s m line).member lines
 
--- a member that can be reached, and the records of its turns: each may come next behind those before it, and they lead to
+-- a member that can be reached, and the records of its turns: each may come next after those before it, and they lead to
 -- what the member keeps over a crash
 pub record IsRecorded (s : Setup) (m : Member) (records : List Record) : Type 0 where
   pub sound : IsSound s m

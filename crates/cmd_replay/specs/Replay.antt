@@ -40,7 +40,7 @@ abbrev pub IsLineEnd : Option (List ℕ) → List ℕ → List ℕ → Type 0
 IsLineEnd left line (b ∷ rest) = (b ≡ 10) ⊎ (8192 < length line)
 IsLineEnd left line [] = IsAtEnd left ⊎ (8192 < length line)
 
--- behind these lines stands a text that is none, the one with this number
+-- after these lines comes a text that is none, the one with this number
 pub record IsStuck (left : Option (List ℕ)) (taken : List ℕ) (lines : List Line) (number : ℕ) : Type 0 where
   pub texts : List (List ℕ)
   pub bad : List ℕ
@@ -60,7 +60,8 @@ pub record IsFront (taken : List ℕ) (lines : List Line) : Type 0 where
   pub known : AreLines texts lines
   pub split : taken ≡ fed texts ++ rest
 
--- a front of what these lines print was written, or of what the whole script prints where its end was reached
+-- a prefix was written of what these lines print, or of what the whole script prints where it was read to
+-- its end
 abbrev pub WritesPart : Setup → Option (List ℕ) → List ℕ → Option (List ℕ) → Option (List ℕ) → Type 0
 WritesPart s left taken old new =
     ((lines : List Line) × IsFront taken lines × AppendsFront old new (turns_text s begin lines))

@@ -17,7 +17,7 @@ pub record IsText (text : List ℕ) : Type 0 where
   pub one_line : All (λ b. b ≢ 10) text
   pub short : length text ≤ 8192
 
--- texts as they stand in a script, each with its end
+-- texts as a script has them, each with its end
 unfoldable pub fed : List (List ℕ) → List ℕ
 fed texts = flat_map (λ text. text ++ 10 ∷ []) texts
 
@@ -44,7 +44,7 @@ turn_at s m None = record { member = restarted m; stored = None; sends = [] }
 unfoldable pub line_turn : Setup → Member → Line → Reacted
 line_turn s m line = turn_at s m (event_of s line)
 
--- the member behind some lines
+-- the member after some lines
 unfoldable pub after : Setup → Member → List Line → Member
 after s m [] = m
 after s m (line ∷ lines) = after s (line_turn s m line).member lines
@@ -65,7 +65,7 @@ closing_text s (suc more) m =
     if m.applied == m.commit then []
     else turn_text None (finished s m).sends ++ closing_text s more (finished s m).member
 
--- what a member prints behind the last line
+-- what a member prints after the last line
 abbrev pub last_text : Setup → Member → List ℕ
 last_text s m = closing_text s (m.commit - m.applied) m
 

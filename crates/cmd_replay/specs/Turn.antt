@@ -30,7 +30,7 @@ use Rattle.r2_frag.specs.Replies.{reply_parts}
 unfoldable pub batched : Member → Member
 batched m = record m { pending = min m.commit (m.applied + 4096) - m.applied }
 
--- a member behind a step, and what it sends
+-- a member after a step, and what it sends
 pub record Sent : Type 0 where
   pub member : Member
   pub sends : List Datagram
@@ -115,7 +115,7 @@ finished s m =
     let done = applied_all s (due m) (batch_of (due m)) in
     record { member = reported s (record done.member { pending = 0 }) done.member.role; sends = done.sends }
 
--- what a row of the reaction table gives: the member behind it, how much of the log still stands, what is sent
+-- what a row of the reaction table gives: the member after it, how much of the log is kept, what is sent
 pub record Outcome : Type 0 where
   pub member : Member
   pub keep : ℕ
@@ -136,11 +136,11 @@ abbrev pub resent : Setup → Request → Option KeptReply → List Datagram
 resent s r (Some reply) = reply_parts (own_address s) r.rid reply.policy reply.payload
 resent s r None = []
 
--- a request that stands in the log is answered again
+-- a request that is in the log is answered again
 abbrev pub answered_again : Setup → Member → Request → Outcome
 answered_again s m r = record { member = m; keep = length m.log; sends = resent s r (newest r.rid m.kept) }
 
--- a whole request: one that stands in the log is answered again, another waits to be ordered
+-- a whole request: one that is in the log is answered again, another waits to be ordered
 unfoldable pub request_row : Setup → Member → Request → Outcome
 request_row s m r = if stands_in r.rid m.log then answered_again s m r else stays m (pooled m r)
 
@@ -174,7 +174,7 @@ won s m =
       queues = new_queues (length s.members);
     }
 
--- a tick at a member that isn't a leader; the only member of a group wins as soon as it stands
+-- a tick at a member that isn't a leader; a group's only member wins as soon as it is a candidate
 unfoldable pub ticked : Setup → Member → Member
 ticked s m = if is_impatient s (waited m) then won s (stood s (waited m)) else waited m
 
@@ -203,7 +203,7 @@ order_to m r rest replier =
       queues = assign m.queues replier (length m.log + 1);
     }
 
--- the member behind the ordering of its oldest request, where that may be ordered
+-- the member after the ordering of its oldest request, where that may be ordered
 abbrev pub order_from : Member → List Request → Option ℕ → Option Member
 order_from m (r ∷ rest) (Some replier) = if has_room m.log r.body then Some (order_to m r rest replier) else None
 order_from m _ _ = None
@@ -222,7 +222,7 @@ unfoldable pub ordered : ℕ → ℕ → Member → Member
 ordered bound zero m = m
 ordered bound (suc room) m = gone_on (ordered bound room) m (order_next bound m)
 
--- what a leader does behind each row: it orders, at most 64 entries a turn with those that the row appended
+-- what a leader does after each row: it orders, at most 64 entries a turn with those that the row appended
 abbrev pub ordering : Setup → ℕ → Member → Role → Member
 ordering s keep m Leader = ordered s.bound (64 - (length m.log - keep)) m
 ordering s keep m _ = m
@@ -237,11 +237,11 @@ counting m Leader =
     if nat_le m.term_start (agreed_index m) && nat_lt m.commit (agreed_index m) then record m { commit = agreed_index m } else m
 counting m _ = m
 
--- behind the row: ordering, counting, and what is to be applied in the next turn
+-- after the row: ordering, counting, and what is to be applied in the next turn
 unfoldable pub settled : Setup → ℕ → Member → Member
 settled s keep m = let all = ordering s keep m m.role in batched (counting all all.role)
 
--- whether the durable state changed since it had this term, this vote and this many entries, of which some still stand
+-- whether the durable state changed since it had this term, this vote and this many entries, of which some are kept
 abbrev pub is_stored : ℕ → Option ℕ → ℕ → ℕ → Member → Bool
 is_stored term vote last keep m =
     not (term == m.term && same_vote vote m.vote && last == keep && length m.log == keep)
@@ -252,7 +252,7 @@ stored_of term vote last keep m =
     if is_stored term vote last keep m
     then Some (record { term = m.term; vote = m.vote; keep = keep; entries = drop keep m.log }) else None
 
--- a member behind a reaction, what has to be stored before anything is sent, and what is sent
+-- a member after a reaction, what has to be stored before anything is sent, and what is sent
 pub record Reacted : Type 0 where
   pub member : Member
   pub stored : Option Record

@@ -50,7 +50,7 @@ pub struct Member {
     pub commit: u64,
     /// The greatest index that was applied.
     pub applied: u64,
-    /// How many entries behind `applied` wait to be applied by the next turn.
+    /// How many entries after `applied` wait to be applied by the next turn.
     pub pending: u64,
     /// The messages some of whose parts came.
     pub unfinished: Assembly,
@@ -125,7 +125,7 @@ impl Member {
         }
     }
 
-    /// Keeps the reply to the entry at an index, and puts its datagrams behind `sends`.
+    /// Keeps the reply to the entry at an index, and appends its datagrams to `sends`.
     fn answer(
         &mut self,
         alloc: Global,
@@ -149,7 +149,7 @@ impl Member {
         Ok(())
     }
 
-    /// Applies the next entry of the log; the reply, where this member is to give it, goes behind `sends`.
+    /// Applies the next entry of the log; the reply, where this member is to give it, is appended to `sends`.
     #[tactic(auto, unfolding(crate::specs::Turn::applied_one))]
     fn apply_next(
         &mut self,
@@ -340,7 +340,7 @@ impl Member {
         reply_parts(alloc, from, &request.rid, policy, payload.as_slice())
     }
 
-    /// Takes a whole request: one that stands in the log is answered again, another waits to be ordered.
+    /// Takes a whole request: one that is in the log is answered again, another waits to be ordered.
     #[tactic(auto, unfolding(crate::specs::Turn::request_row))]
     fn take_request(
         &mut self,
@@ -421,7 +421,7 @@ impl Member {
         Ok(())
     }
 
-    /// What a leader does behind each row: it orders what waits in the pool.
+    /// What a leader does after each row: it orders what waits in the pool.
     fn order(&mut self, setup: &Setup, keep: u64) -> Result<(), NoMemory>
         requires { IsOrderly self.old }
         ensures { OnOk result (self.new ≡ ordering setup.now keep self.old self.old.role) }
@@ -463,7 +463,7 @@ impl Member {
         Ok(())
     }
 
-    /// The record of what changed since there were this term, this vote and this many entries, `keep` of which still stand.
+    /// The record of what changed since there were this term, this vote and this many entries, `keep` of which are left.
     #[tactic(auto, unfolding(crate::specs::Turn::stored_of))]
     fn stored(
         &self,
@@ -502,7 +502,7 @@ impl Member {
         receive(&mut self.unfinished, event)
     }
 
-    /// Reacts to what was heard: what changed of the durable state, and what goes out behind it.
+    /// Reacts to what was heard: what changed of the durable state, and what goes out after it.
     #[tactic(auto, unfolding(crate::specs::Turn::reacted_to))]
     pub(crate) fn react(
         &mut self,

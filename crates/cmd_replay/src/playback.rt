@@ -131,7 +131,7 @@ impl Playback {
         Ok(())
     }
 
-    /// Runs what stands behind the last line end, and prints what is still to be applied.
+    /// Runs what comes after the last line end, and prints what is still to be applied.
     pub(crate) fn end<K: Sink>(&mut self, alloc: Global, sink: &mut K) -> Result<(), Status>
         requires alone { IsAlone self.old.setup }
         requires recorded { IsRecorded self.old.setup self.old.member self.old.records }

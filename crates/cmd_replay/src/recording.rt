@@ -41,7 +41,7 @@ fn event_of(setup: &Setup, line: Line) -> Option<Event>
     }
 }
 
-/// Puts the record of a turn behind the earlier ones, where there is one.
+/// Puts the record of a turn after the earlier ones, where there is one.
 fn keep(records: &mut Records, reaction: Turn) -> Result<(), NoMemory>
     ensures { OnOk result (records.new ≡ records.old ++ stored_list reaction.stored) }
 {
@@ -52,7 +52,7 @@ fn keep(records: &mut Records, reaction: Turn) -> Result<(), NoMemory>
     }
 }
 
-/// Makes the member anew from the records of its turns. Each may come next behind those before it, so memory alone may lack.
+/// Makes the member anew from the records of its turns. Each may come next after those before it, so only memory can fail.
 fn restart(alloc: Global, member: &mut Member, records: &Records) -> Result<(), NoMemory>
     requires history { IsHistory records.now }
     requires state { replay records.now ≡ durable_of member.old }

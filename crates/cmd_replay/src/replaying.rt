@@ -20,7 +20,7 @@ const SOURCE_LIMIT: u64 = 1 << 56;
 /// How many bytes are read at a time at most.
 const CHUNK: usize = 4_096;
 
-/// Reads into the front of `chunk`, at most so many bytes.
+/// Reads into the beginning of `chunk`, at most so many bytes.
 fn read_some<S: Source>(source: &mut S, chunk: &mut [u8], most: u64) -> Result<usize, Failed>
     ensures bound { IfOk result (λ n. n ≤ length chunk.new) }
     ensures limit { IfOk result (λ n. n ≤ most) }
@@ -84,7 +84,7 @@ fn run_pieces<S: Source, K: Sink>(
 /// Runs the script that `source` gives, one replica alone in its group, and writes what it prints to `sink`.
 ///
 /// Lines that are known run before more of the source is read; of a turn the record is printed before the datagrams.
-/// Whether the source or the sink failed is told by the status alone: both stay as their last call left them.
+/// Whether the source or the sink failed is reported by the status alone: both stay as their last call left them.
 pub fn replay<S: Source, K: Sink>(
     alloc: Global,
     setup: Setup,
@@ -95,8 +95,8 @@ pub fn replay<S: Source, K: Sink>(
 
     ensures ran { IsReplay setup (S.left source.old) (S.left source.new) (K.written sink.old) (K.written sink.new) result }
 
-    // A script in its grammar, where neither the source nor the sink failed, is run to its end, or ends at 2^56 bytes or for
-    // want of memory.
+    // A script in its grammar, where neither the source nor the sink failed, is run to its end, or ends at 2^56 bytes or
+    // where memory runs out.
     ensures complete { (script : List ℕ) → S.left source.old ≡ Some script → IsScript script
         → (Rose (S.faults source.old) (S.faults source.new) → ⊥) → (Rose (K.faults sink.old) (K.faults sink.new) → ⊥) → IsComplete result }
 

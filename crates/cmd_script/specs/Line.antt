@@ -14,7 +14,7 @@ pub record IsIncoming (text : List ℕ) (from : Addr) (bytes : List ℕ) : Type 
   pub decoded : decode_of digits ≡ Ok bytes
   pub spelled : text ≡ codes "in " ++ address ++ codes " " ++ digits
 
--- the line of a datagram that came from there, with these digits behind the address
+-- the line of a datagram that came from there, with these digits after the address
 pub record IsSentBy (text : List ℕ) (from : Addr) (digits : List ℕ) : Type 0 where
   pub address : List ℕ
   pub named : IsAddrText from address

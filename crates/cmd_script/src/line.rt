@@ -57,7 +57,7 @@ fn read_incoming(alloc: Global, line: &[u8]) -> Result<Line, TextFault>
     Ok(Line::In { from, bytes })
 }
 
-/// Who sent the datagram of the line, and the text behind the space that follows.
+/// Who sent the datagram of the line, and the text after the space that follows.
 fn read_sender(line: &[u8]) -> Option<(Addr, &[u8])>
     ensures found { IfSome result (λ p. IsSentBy line.now p.0 p.1.now) }
     ensures only { (from : AddrSpec) (digits : List ℕ) → IsSentBy line.now from digits

@@ -10,15 +10,15 @@ use Rattle.cmd_status.specs.declared.status.Status.TheVariants.{Done, BadWords, 
 use Rattle.cmd_status.specs.Texts.{cause_text, error_text}
 use Rattle.cmd_status.specs.Stops.{StopsBySink, HasSinkCause}
 
--- of three pieces, a front of the first
+-- of three pieces, a prefix of the first
 pub front_of_first : (a b : Option (List ℕ)) (x y z : List ℕ) → AppendsFront a b x → AppendsFront a b (x ++ y ++ z)
 front_of_first a b x y z cut = AppendsFront-longer a b (x ++ y) z (AppendsFront-longer a b x y cut)
 
--- the first, and a front of the second
+-- the first, and a prefix of the second
 pub front_of_second : (a b c : Option (List ℕ)) (x y z : List ℕ) → Appends a b x → AppendsFront b c y → AppendsFront a c (x ++ y ++ z)
 front_of_second a b c x y z first cut = AppendsFront-longer a c (x ++ y) z (AppendsFront-then a b c x y cut first)
 
--- the first two, and a front of the third
+-- the first two, and a prefix of the third
 pub front_of_third : (a b c d : Option (List ℕ)) (x y z : List ℕ) → Appends a b x → Appends b c y → AppendsFront c d z → AppendsFront a d (x ++ y ++ z)
 front_of_third a b c d x y z first second cut =
     AppendsFront-then a c d (x ++ y) z cut (Appends-trans a b c x y first second)

@@ -6,7 +6,7 @@ use Rattle.r2_link.specs.Streams.{AppendsFront}
 use Rattle.cmd_status.specs.declared.status.Status.{Status}
 use Rattle.cmd_status.specs.declared.status.Status.TheVariants.{Done, BadWords, BadScript, Memory, SourceFault, SinkFault, LinkFault, ClockFault, TimedOut, IdsUsed, TurnsSpent}
 
--- printing stops where the sink failed, or for want of memory, and for no other cause
+-- printing stops where the sink failed or memory ran out, and for no other cause
 abbrev pub StopsBySink : ℕ → ℕ → Status → Type 0
 StopsBySink old new SinkFault = Rose old new
 StopsBySink old new Memory = Unit {0}
@@ -25,6 +25,6 @@ abbrev pub HasSinkCause : ℕ → ℕ → Status → Type 0
 HasSinkCause old new SinkFault = Rose old new
 HasSinkCause old new _ = Unit {0}
 
--- all of the text was written, or a front of it where the count of the sink's faults rose
+-- all of the text was written, or a prefix of it where the count of the sink's faults rose
 abbrev pub Reports : Option (List ℕ) → Option (List ℕ) → ℕ → ℕ → List ℕ → Type 0
 Reports old new faults_old faults_new text = Appends old new text ⊎ (AppendsFront old new text × Rose faults_old faults_new)

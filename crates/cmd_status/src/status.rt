@@ -28,7 +28,7 @@ pub enum Status {
     SinkFault,
     /// A socket couldn't be opened, or failed to send or to receive.
     LinkFault,
-    /// The time couldn't be told.
+    /// The time couldn't be read.
     ClockFault,
     /// A request was sent as often as it may be, and no reply came.
     TimedOut,

@@ -291,7 +291,7 @@ either : {A : Type 0} (b : Bool) (x y : A) (P : A → Type 0) → P x → P y �
 either true x y P p q = p
 either false x y P p q = q
 
--- what holds of any fields and of a want of a tag holds of the fields after any tag
+-- what holds of any fields, and where there is no such tag, holds of the fields after any tag
 each_tag : (P : Result (Msg × List ℕ) MsgFault → Type 0) → ((r : Result (Msg × List ℕ) FieldFault) → P (of_fields msg_fault_of r)) → P (Err Tag) → (tag : ℕ) (bytes : List ℕ) → P (front_fields tag bytes)
 unfolding front_fields
 each_tag P each none tag bytes =

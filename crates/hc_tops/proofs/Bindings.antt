@@ -25,7 +25,7 @@ pub bound-client : (l m : Option (List Item)) (s t : Option (List Datagram)) (k 
     → Passes (outside l s k w) (outside m t k w) [] [] [] []
 bound-client l m s t k w left sent = record { heard = hears-none l m left; told = IsKept-refl k; gave = Gains-none s t sent; wrote = Appends-nil w }
 
--- what ran is behind its binding
+-- what ran came after its binding
 pub behind-ran : (Nothing : Type 0) (Ran : Status → Type 0) (status : Status) → Ran status → BehindBinding Nothing Ran status
 behind-ran Nothing Ran LinkFault ran = inr ran
 behind-ran Nothing Ran Memory ran = inr ran
@@ -40,7 +40,7 @@ runs-from calling pace left left' a b c status bound ran = record {
   lines = ran.lines;
 }
 
--- a client's run behind its binding
+-- a client's run after its binding
 pub calls-from : (calling : Calling) (pace : Pace) (left left' : Option (List ℕ)) (a b c : Outside) (status : Status)
     → Passes a b [] [] [] [] → Calls calling pace left left' b c status → Calls calling pace left left' a c status
 calls-from calling pace left left' a b c ClockFault bound (inl nothing) =
@@ -48,6 +48,6 @@ calls-from calling pace left left' a b c ClockFault bound (inl nothing) =
 calls-from calling pace left left' a b c ClockFault bound (inr ran) = inr (runs-from calling pace left left' a b c ClockFault bound ran)
 calls-from calling pace left left' a b c _ bound ran = runs-from calling pace left left' a b c _ bound ran
 
--- a fault behind the binding is one of the whole run, and a run without a fault has none behind its binding
+-- a fault after the binding is one of the whole run, and a run without a fault has none after its binding
 pub rose-behind : (a b c : ℕ) → a ≤ b → Rose b c → Rose a c
 rose-behind a b c steady rose = omega (arith, steady, rose)

@@ -84,7 +84,7 @@ abbrev pub around : Option (List (List Item)) → Outside → Around
 around lanes o = record { lanes = lanes; sent = o.sent; clock = o.clock }
 
 -- a command ran and ended so: what the source had left and has, the lanes that the link had left for twins and has, and the outside
--- before and behind it
+-- before and after it
 abbrev pub Runs : Meant → Option (List ℕ) → Option (List ℕ) → Option (List (List Item)) → Option (List (List Item)) → Outside → Outside → Status → Type 0
 Runs (Router listen servers n workers tick_ms turns) left left' lanes lanes' old new status =
     Routes (record { me = listen; servers = servers; n = n }) (record { tick_ms = tick_ms; turns = turns }) (around lanes old) (around lanes' new) old.written new.written status

@@ -77,7 +77,7 @@ fn routed(alloc: Global, heard: &[Datagram]) -> Result<Vec<Datagram>, Fail> {
     Ok(sent)
 }
 
-/// What a new server behind the router sends for these datagrams.
+/// What a new server, reached through the router, sends for these datagrams.
 fn served(alloc: Global, heard: &[Datagram]) -> Result<Vec<Datagram>, Fail> {
     if heard.len() > 100 {
         return Err(Fail::from("too many datagrams"));

@@ -239,7 +239,7 @@ pub fn run_plain<S: Source, K: Sink, E: Sink, L: Link, C: Clock>(
     link: &mut L,
     clock: &mut C,
 ) -> Status
-    // The words are refused where they mean nothing, a router or a server, and only there. Want of memory can come first.
+    // The words are refused where they mean nothing, a router or a server, and only there. Memory may run out first.
     ensures refused { result ≡ BadWords → (m : MeantSpec) → Means (map (λ w. string_bytes w) words.now) m → IsPlain m → ⊥ }
     ensures only_refused { ((m : MeantSpec) → Means (map (λ w. string_bytes w) words.now) m → IsPlain m → ⊥) → IsRefusal result }
 
@@ -258,7 +258,7 @@ pub fn run_plain<S: Source, K: Sink, E: Sink, L: Link, C: Clock>(
     ensures clock_kept { ((m : MeantSpec) → Means (map (λ w. string_bytes w) words.now) m → IsPlain m → UsesLink m → ⊥) → clock.new ≡ clock.old }
     ensures lanes { IsKept (L.lanes link.old) (L.lanes link.new) }
 
-    // The errors gain exactly the line of the status, or a front of it where they failed.
+    // The errors gain exactly the line of the status, or a prefix of it where they failed.
     ensures told { Reports (E.written errors.old) (E.written errors.new) (E.faults errors.old) (E.faults errors.new) (error_text result) }
     ensures errors_steady { E.faults errors.old ≤ E.faults errors.new }
 
@@ -288,7 +288,7 @@ pub fn run<S: Source, K: Sink, E: Sink, L: Twin, C: Clock>(
     link: &mut L,
     clock: &mut C,
 ) -> Status
-    // The words are refused where they mean nothing, and only there. Want of memory can come first.
+    // The words are refused where they mean nothing, and only there. Memory may run out first.
     ensures refused { result ≡ BadWords → (m : MeantSpec) → Means (map (λ w. string_bytes w) words.now) m → ⊥ }
     ensures only_refused { ((m : MeantSpec) → Means (map (λ w. string_bytes w) words.now) m → ⊥) → IsRefusal result }
 
@@ -307,7 +307,7 @@ pub fn run<S: Source, K: Sink, E: Sink, L: Twin, C: Clock>(
     ensures clock_kept { ((m : MeantSpec) → Means (map (λ w. string_bytes w) words.now) m → UsesLink m → ⊥) → clock.new ≡ clock.old }
     ensures lanes { ((m : MeantSpec) → Means (map (λ w. string_bytes w) words.now) m → UsesTwins m → ⊥) → IsKept (L.lanes link.old) (L.lanes link.new) }
 
-    // The errors gain exactly the line of the status, or a front of it where they failed.
+    // The errors gain exactly the line of the status, or a prefix of it where they failed.
     ensures told { Reports (E.written errors.old) (E.written errors.new) (E.faults errors.old) (E.faults errors.new) (error_text result) }
     ensures errors_steady { E.faults errors.old ≤ E.faults errors.new }
 

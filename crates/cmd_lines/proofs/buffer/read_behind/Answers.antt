@@ -1,4 +1,4 @@
--- What a read gave stands behind what the buffer held.
+-- What a read gave comes after what the buffer held.
 use Rattle.std.proofs.Common.{◌≡◌, ◌+◌, ◌≤◌, length, take, sym, ◌∙◌, arith}
 use Rattle.r2_link.proofs.Streams.{Keeps-refl}
 use Rattle.cmd_lines.proofs.Buffers.{behind_old}

@@ -1,4 +1,4 @@
--- A restart prints nothing; each other line prints its turn, and puts its record behind the others.
+-- A restart prints nothing; each other line prints its turn, and puts its record after the others.
 use Rattle.std.proofs.Common.{◌≡◌, ◌++◌, List, None, Some, sym, ap, subst, ◌∙◌}
 use Rattle.std.specs.Prelude.{Result, Ok, Err, OnOk, OnErr}
 use Rattle.std.specs.Io.KnownBytes.{Appends}

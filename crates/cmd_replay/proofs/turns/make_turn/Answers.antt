@@ -52,7 +52,7 @@ react-requires-clause-orderly c =
     let goes = goes-with_received s c.requires.alone c.finish.new.self c.args.event.now between in
     subst IsOrderly (sym c.in_ok-said.ensures.state) goes.orderly
 
--- what is stored leads to the state behind the turn
+-- what is stored leads to the state after the turn
 leads : (d : State) (stored stored' : Option Record) (m n : Member) → stored ≡ stored' → n ≡ m → LeadsTo d stored' (durable_of m) → LeadsTo d stored (durable_of n)
 leads d stored stored' m n same at h =
     subst (λ o. LeadsTo d o (durable_of n)) (sym same) (subst (λ (x : Member). LeadsTo d stored' (durable_of x)) (sym at) h)

@@ -1,4 +1,4 @@
--- A bind does nothing that is told.
+-- A bind does nothing that is reported.
 use Rattle.cmd_loop.proofs.Told.{IsKept-refl}
 use Rattle.cmd_router.specs.Twins.{Around}
 use Rattle.cmd_router.proofs.Routes.{routes-from}

@@ -1,4 +1,4 @@
--- Behind a bind nothing passed yet.
+-- After a bind nothing passed yet.
 use Rattle.std.proofs.Common.{[]}
 use Rattle.cmd_status.specs.declared.status.Status.{Status}
 use Rattle.cmd_loop.specs.Loop.{Serves}

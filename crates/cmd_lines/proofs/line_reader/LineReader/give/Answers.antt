@@ -1,4 +1,4 @@
--- What waits behind a line that was given is as sound as before.
+-- What waits after a line that was given is as sound as before.
 use Rattle.std.proofs.Common.{◌≤◌, length, drop, sym, subst, arith, length-drop}
 use Rattle.cmd_lines.specs.Reader.{ReaderState}
 use Rattle.cmd_lines.proofs.Steps.{sound_behind}

@@ -1,4 +1,4 @@
--- A member that stands has a log that the blank entry of its term may follow.
+-- A member that stands for election has a log that the blank entry of its term may follow.
 use Rattle.std.proofs.Common.{sym, subst, ◌∙◌}
 use Rattle.hc_log.specs.Log.{blank_of, MayFollow}
 use Rattle.cmd_replay.specs.declared.member.Member.{Member}

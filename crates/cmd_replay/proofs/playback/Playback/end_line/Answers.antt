@@ -1,4 +1,4 @@
--- A line that is whole was run, or tells why not.
+-- A line that is whole was run, or the answer says why not.
 use Rattle.std.proofs.Common.{◌+◌, ℕ, List, [], ◌∷◌, sym, subst, refl}
 use Rattle.cmd_replay.specs.Playback.{Advanced, Ran, StopsText}
 use Rattle.cmd_replay.proofs.Advance.{Advanced-line, StopsPiece-line}

@@ -1,4 +1,4 @@
--- Each byte is a piece by itself, behind the piece so far.
+-- Each byte is a piece by itself, after the piece so far.
 use Rattle.std.proofs.Common.{◌+◌, ℕ, List, [], ◌∷◌, ◌++◌, get_or, take, drop, sym, subst, ap, ◌∙◌, refl, arith, take-append-drop}
 use Rattle.std.proofs.lemmas.List.{take_more}
 use Rattle.cmd_replay.specs.declared.setup.Setup.{Setup}
