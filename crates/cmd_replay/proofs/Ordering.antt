@@ -7,23 +7,6 @@ use Rattle.hc_log.specs.declared.stored.Stored.{Stored}
 use Rattle.hc_log.specs.Log.{has_room, requests_of, body_bytes_of}
 use Rattle.cmd_replay.specs.Turn.{gone_on, order_next, ordered}
 
--- what a log has that may take a request
-pub record HasRoom (log : List Stored) (body : List ℕ) : Type 0 where
-  pub entries : length log < 2 ^ 62
-  pub requests : requests_of log < 1048576
-  pub body_bytes : body_bytes_of log + length body ≤ 1073741824
-
-pub has_room-parts : (log : List Stored) (body : List ℕ) → has_room log body ≡ true → HasRoom log body
-unfolding has_room
-has_room-parts log body e =
-    let outer = and_parts (nat_lt (length log) (2 ^ 62) && nat_lt (requests_of log) 1048576) (nat_le (body_bytes_of log + length body) 1073741824) e in
-    let inner = and_parts (nat_lt (length log) (2 ^ 62)) (nat_lt (requests_of log) 1048576) outer.0 in
-    record {
-      entries = ltb-true (length log) (2 ^ 62) inner.0;
-      requests = ltb-true (requests_of log) 1048576 inner.1;
-      body_bytes = leb-true (body_bytes_of log + length body) 1073741824 outer.1;
-    }
-
 -- where nothing more may be ordered, ordering leaves the member
 pub ordered-none : (bound room : ℕ) (m : Member) → order_next bound m ≡ None → ordered bound room m ≡ m
 unfolding ordered

@@ -35,7 +35,7 @@ use Rattle.cmd_replay.specs.Member.{AreOrderly, IsOrderly}
 use Rattle.cmd_replay.specs.Replay.{IsAlone}
 use Rattle.cmd_replay.specs.Queues.{fewest, choose}
 use Rattle.cmd_replay.specs.Turn.{batched, due, pooled, request_row, answered_again, stays, with_received, waited, is_impatient, patience, stood, won, ticked, row, tick_row, entry_of, order_to, order_from, order_next, gone_on, ordered, ordering, counting, settled}
-use Rattle.cmd_replay.proofs.Ordering.{has_room-parts}
+use Rattle.hc_log.proofs.Rooms.{has_room-parts}
 
 -- a durable state comes after another: its term isn't lower, a term keeps its vote, and the log still begins as it was
 pub record Behind (d e : State) : Type 0 where

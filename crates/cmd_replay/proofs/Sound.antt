@@ -29,7 +29,7 @@ use Rattle.r2_base.specs.Limits.{most_body}
 use Rattle.cmd_replay.proofs.Applying.{Leaves, applied_all-leaves}
 use Rattle.cmd_replay.proofs.Answering.{CanAnswer, applied_all-answers}
 use Rattle.cmd_replay.proofs.ShortReceived.{received_short}
-use Rattle.cmd_replay.proofs.Ordering.{has_room-parts}
+use Rattle.hc_log.proofs.Rooms.{has_room-parts}
 use Rattle.hc_log.proofs.Counting.{requests_of_more}
 use Rattle.cmd_replay.proofs.Counts.{one_request}
 use Rattle.cmd_replay.proofs.Replayed.{replayed-begin, applied_all-replayed}

@@ -1,5 +1,6 @@
 -- A turn of the only member of a group: it finishes what was pending, then reacts to an event.
 use Rattle.std.specs.Prelude.{ℕ, ◌+◌, ◌-◌, ◌*◌, ◌^◌, ◌==◌, ◌&&◌, ◌||◌, Bool, not, if◌then◌else◌, nat_lt, nat_le, min, suc, zero, List, [], ◌∷◌, ◌++◌, length, take, drop, Option, Some, None}
+use Rattle.r2_base.specs.Limits.{greatest_number, most_entries}
 use Rattle.r2_base.specs.declared.datagram.Datagram.{Datagram}
 use Rattle.r2_base.specs.declared.event.Event.{Event}
 use Rattle.r2_base.specs.declared.entry.Kind.{Kind}
@@ -16,7 +17,7 @@ use Rattle.hc_service.specs.State.{State, after_write, after_admission}
 use Rattle.hc_service.specs.Replies.{payload_of}
 use Rattle.hc_log.specs.Log.{blank_of, has_room, stands_in}
 use Rattle.cmd_replay.specs.Durable.{same_vote}
-use Rattle.hc_pool.specs.Pool.{waits_in}
+use Rattle.hc_pool.specs.Pool.{most_pooled, waits_in}
 use Rattle.cmd_replay.specs.Queues.{new_queues, choose, assign, report}
 use Rattle.cmd_replay.specs.Member.{own_address}
 use Rattle.r2_frag.specs.declared.kept.KeptReply.{KeptReply}
@@ -26,9 +27,13 @@ use Rattle.cmd_replay.specs.declared.heard.Heard.TheVariants.{Nothing, Whole, Ti
 use Rattle.cmd_replay.specs.Heard.{receive, policy_of}
 use Rattle.r2_frag.specs.Replies.{reply_parts}
 
--- the member waits with everything that is committed and not applied, 4,096 entries at most
+-- the greatest number of entries that wait in one batch to be applied
+abbrev pub most_batched : ℕ
+most_batched = 4096
+
+-- the member waits with everything that is committed and not applied, as much as a batch may have
 unfoldable pub batched : Member → Member
-batched m = record m { pending = min m.commit (m.applied + 4096) - m.applied }
+batched m = record m { pending = min m.commit (m.applied + most_batched) - m.applied }
 
 -- a member after a step, and what it sends
 pub record Sent : Type 0 where
@@ -128,7 +133,7 @@ stays old new = record { member = new; keep = length old.log; sends = [] }
 -- a new request goes into the pool, unless it waits there already, or the pool is full
 unfoldable pub pooled : Member → Request → Member
 pooled m r =
-    if waits_in r.rid m.pool || nat_le 4096 (length m.pool) then m
+    if waits_in r.rid m.pool || nat_le most_pooled (length m.pool) then m
     else record m { pool = m.pool ++ r ∷ [] }
 
 -- the kept reply to a request goes out again, where one is kept
@@ -149,7 +154,7 @@ unfoldable pub waited : Member → Member
 waited m =
     record m {
       silent = min (m.silent + 1) (2 ^ 31);
-      pool = if nat_le 4096 (length m.pool) then drop 1 m.pool else m.pool;
+      pool = if nat_le most_pooled (length m.pool) then drop 1 m.pool else m.pool;
     }
 
 -- after how many silent ticks a member stands for election
@@ -158,7 +163,7 @@ patience s = s.election + 3 * s.me
 
 -- whether a member stands for election now
 unfoldable pub is_impatient : Setup → Member → Bool
-is_impatient s m = nat_le (patience s) m.silent && nat_lt m.term (2 ^ 62) && nat_lt (length m.log) (2 ^ 62)
+is_impatient s m = nat_le (patience s) m.silent && nat_lt m.term greatest_number && nat_lt (length m.log) greatest_number
 
 -- a candidate of the next term, with its own vote (Raft, section 5.2)
 unfoldable pub stood : Setup → Member → Member
@@ -222,9 +227,9 @@ unfoldable pub ordered : ℕ → ℕ → Member → Member
 ordered bound zero m = m
 ordered bound (suc room) m = gone_on (ordered bound room) m (order_next bound m)
 
--- what a leader does after each row: it orders, at most 64 entries a turn with those that the row appended
+-- what a leader does after each row: it orders, with the entries that the row appended at most as many as an Order can have
 abbrev pub ordering : Setup → ℕ → Member → Role → Member
-ordering s keep m Leader = ordered s.bound (64 - (length m.log - keep)) m
+ordering s keep m Leader = ordered s.bound (most_entries - (length m.log - keep)) m
 ordering s keep m _ = m
 
 -- the greatest index that a majority has, in a group of one: the leader alone is a majority

@@ -25,8 +25,8 @@ use r2_base::{
 use r2_frag::{Assembly, Kept, reply_parts};
 use std::alloc::Global;
 
-/// How many entries one batch may have.
-const BATCH_LIMIT: u64 = 4_096;
+/// The greatest number of entries that wait in one batch to be applied.
+const MOST_BATCHED: u64 = 4_096;
 
 /// Silent ticks are counted up to here.
 const SILENCE_LIMIT: u32 = 1 << 31;
@@ -112,7 +112,7 @@ impl Member {
     fn set_batch(&mut self)
         ensures { self.new ≡ batched self.old }
     {
-        let end = self.commit.min(self.applied.saturating_add(BATCH_LIMIT));
+        let end = self.commit.min(self.applied.saturating_add(MOST_BATCHED));
         self.pending = end.saturating_sub(self.applied);
     }
 

@@ -7,6 +7,7 @@ use crate::body::{cas_body, count_body, del_body, get_body, put_body, scan_body}
 use crate::call::Call;
 use crate::value::{read_sized, read_value};
 use cmd_script::TextFault;
+use hc_service::MOST_FIELD;
 use r2_base::{read_decimal, split_once};
 use std::alloc::Global;
 
@@ -144,7 +145,7 @@ fn scan_call(alloc: Global, rest: &[u8]) -> Result<Call, TextFault>
         Ok(key) => key,
         Err(fault) => return Err(fault),
     };
-    let Some(limit) = read_decimal(limit, 65_535) else {
+    let Some(limit) = read_decimal(limit, u64::from(MOST_FIELD)) else {
         return Err(TextFault::Outside);
     };
     let body = scan_body(alloc, key.as_slice(), limit as u16)?;

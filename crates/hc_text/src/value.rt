@@ -3,12 +3,10 @@ ghost use Rattle.hex.specs.Hex.{decode_of};
 ghost use Rattle.hc_text.specs.Call.{IsPrinting, IsValueText};
 
 use cmd_script::TextFault;
+use hc_service::MOST_FIELD;
 use hex::FromHexError;
 use r2_base::Bytes;
 use std::alloc::Global;
-
-/// The greatest length of a key or of an old value.
-const MOST_SIZED: usize = 65_535;
 
 /// The value of a text: its bytes as they are, or those that it gives in hexadecimal after `x:`.
 pub(crate) fn read_value(alloc: Global, text: &[u8]) -> Result<Bytes, TextFault>
@@ -37,7 +35,7 @@ pub(crate) fn read_sized(alloc: Global, text: &[u8]) -> Result<Bytes, TextFault>
         Ok(value) => value,
         Err(fault) => return Err(fault),
     };
-    if value.len() > MOST_SIZED {
+    if value.len() > usize::from(MOST_FIELD) {
         return Err(TextFault::Outside);
     }
     Ok(value)

@@ -1,8 +1,8 @@
 -- The state of the protocol, on which its rules act: the members of a group, the aggregator, all that was ever sent, and
 -- what the laws remember.
 --
--- The rules alone have this state. Members that run, with journals and datagrams, make a world with a state of its own, for
--- which one of the protocol can stand: where both are met, `World` is that one, and `ProtocolState` this one.
+-- The rules alone have this state. Members that run, with journals and datagrams, have a state of their own, for which one of
+-- the protocol can stand.
 --
 -- Left out is what carries no promise of these rules: timers, assemblies, queues, kept replies, the pending batch and the
 -- next index to send. Of queues and kept replies a member that runs has more to say. An entry here has no body: bodies are

@@ -188,6 +188,7 @@ next-unfinished messages key h payload all good not_whole =
           let waits = All-get_or IsUnfinished messages f.0 (begun key) f.1 all in
           let counts : contradicts (get_or messages f.0 (begun key)).count (count_said h) ≡ false = rw place.found at checks.counts in
           rw place.found (record {
+            lacks = rw place.found at not_whole;
             several = several-both (get_or messages f.0 (begun key)).count (count_said h) waits.several counts;
             places = length-set (get_or messages f.0 (begun key)).pieces (number_of h) (Some payload) ∙ waits.places;
           }))
@@ -195,6 +196,7 @@ next-unfinished messages key h payload all good not_whole =
           (let counts : contradicts (AtLeast 1) (count_said h) ≡ false = rw (a.found, count-begun key) at checks.counts in
           let whole : whole_body (both_counts (AtLeast 1) (count_said h)) (set (begun key).pieces (number_of h) (Some payload)) ≡ None = rw (a.found, count-begun key) at not_whole in
           rw a.found (record {
+            lacks = rw a.found at not_whole;
             several = rw (count-begun key) (several-begun (count_said h) key h payload refl counts whole);
             places = length-set (begun key).pieces (number_of h) (Some payload) ∙ places-begun key;
           }))

@@ -1,5 +1,5 @@
 -- Parts of one body: a single one, those that a message keeps, and what adding one more comes to.
-use Rattle.std.specs.Prelude.{◌≡◌, ℕ, ◌+◌, ◌<◌, ◌≤◌, ◌==◌, true, ◌⊎◌, List, length, Some}
+use Rattle.std.specs.Prelude.{◌≡◌, ℕ, ◌+◌, ◌<◌, ◌≤◌, ◌==◌, true, ◌⊎◌, List, length, Some, None}
 use Rattle.std.specs.List.{All, Contains}
 use Rattle.r2_header.specs.declared.header.Header.{Header}
 use Rattle.r2_frag.specs.declared.added.Added.{Added}
@@ -8,7 +8,7 @@ use Rattle.r2_frag.specs.declared.key.Key.{Key}
 use Rattle.r2_frag.specs.declared.part_count.PartCount.{PartCount}
 use Rattle.r2_frag.specs.declared.part_count.PartCount.TheVariants.{Exactly, AtLeast}
 use Rattle.r2_frag.specs.declared.unfinished.Unfinished.{Unfinished}
-use Rattle.r2_frag.specs.Assembly.{least_count, number_of, piece_at}
+use Rattle.r2_frag.specs.Assembly.{least_count, number_of, piece_at, whole_body}
 use Rattle.r2_frag.specs.Parts.{most_parts, part_count, piece}
 
 -- a header and a payload are a part of the body: the first counts its pieces, the last is marked, and the payload is the
@@ -47,10 +47,11 @@ pub record KeepsBody (body : List ℕ) (key : Key) (messages : List Unfinished) 
   pub answer : GivesBody body r.0
   pub left : All (λ m. Contains messages m ⊎ ((m.key ≡ key) × HasPartsOf body m)) r.1
 
--- a message waits for further parts: it has two at least, and a place for each number
+-- a message waits for further parts: it has two at least, a place for each number, and lacks some part
 pub record IsUnfinished (m : Unfinished) : Type 0 where
   pub several : 1 < least_count m.count
   pub places : length m.pieces ≡ most_parts
+  pub lacks : whole_body m.count m.pieces ≡ None
 
 -- the answer is the whole payload, or the part isn't taken
 abbrev pub GivesAtOnce : List ℕ → Added → Type 0

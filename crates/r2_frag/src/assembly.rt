@@ -70,7 +70,7 @@ impl Assembly {
         ensures ok { IfOk result (λ answer. (answer, self.new) ≡ added self.old key header.now payload.now) }
         ensures err { OnErr result (self.new ≡ self.old) }
 
-        // A body is no longer than its class allows.
+        // A body is no longer than the parts that a header of its class can count.
         ensures body { IfOk result (λ answer. IsBodyWithin key.class answer) }
         ensures pending { ArePending self.new }
 

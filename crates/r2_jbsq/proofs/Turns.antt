@@ -107,15 +107,21 @@ record SendsAgain (setup : RouterSetup) (forwards : ℕ) (given : List Datagram)
   repeats : requests_among given ≡ length given
   at_most_one : length given ≤ length setup.servers
 
+-- at most one request is passed on
+next-few : (setup : RouterSetup) (o : Option (RoutedRequest × ℕ)) → length (next_sends setup o) ≤ 1
+next-few setup None = omega arith
+next-few setup (Some (request, to)) = omega arith
+
 counts : (r r' : RouterState) (event : Event) (given : List Datagram) (a f b : ℕ)
     → r'.accepted ≡ r.accepted + a → r'.forwarded ≡ r.forwarded + f → r'.answered ≡ r.answered + b
     → (0 < a → asks event ≡ true) → (0 < a → refusals_among given ≡ 0) → (0 < b → answers r.setup.servers event ≡ true)
-    → (is_tick event ≡ false → requests_among given ≡ f) → (is_tick event ≡ true → SendsAgain r.setup f given) → CountsPackets r event given r'
-counts r r' event given a f b accepted forwarded answered asked taken told sends again =
+    → (is_tick event ≡ false → length given ≤ 1) → (is_tick event ≡ false → requests_among given ≡ f) → (is_tick event ≡ true → SendsAgain r.setup f given) → CountsPackets r event given r'
+counts r r' event given a f b accepted forwarded answered asked taken told few sends again =
     record {
       asked = λ h. asked (omega (arith, h, accepted));
       taken = λ h. taken (omega (arith, h, accepted));
       answered = λ h. told (omega (arith, h, answered));
+      one = few;
       forwarded = λ t. forwarded ∙ ap (λ (n : ℕ). r.forwarded + n) (sym (sends t));
       stays = λ t. let none = (again t).none in omega (arith, none, forwarded);
       repeats = λ t. (again t).repeats;
@@ -129,26 +135,26 @@ quiet setup = record { none = refl; repeats = refl; at_most_one = omega arith }
 decision-counts : (r : RouterState) (event : Event) (d : Decision) → ComesFrom r.setup event d → HoldsRequests r.standing → BringsRequest d
     → CountsPackets r event (sends_of r.setup r.standing d) (counted (carried_out r d))
 decision-counts r event decision.Nothing w k e =
-    counts r _ event [] 0 0 0 (omega arith) (omega arith) (omega arith) (λ h. absurd (omega (arith, h))) (λ h. refl) (λ h. absurd (omega (arith, h))) (λ t. refl) (λ t. quiet r.setup)
+    counts r _ event [] 0 0 0 (omega arith) (omega arith) (omega arith) (λ h. absurd (omega (arith, h))) (λ h. refl) (λ h. absurd (omega (arith, h))) (λ t. omega arith) (λ t. refl) (λ t. quiet r.setup)
 decision-counts r event (decision.Reject rid) w k e =
     counts r _ event (reject r.setup.me rid ∷ []) 0 0 0 (omega arith) (omega arith) (omega arith) (λ h. w) (λ h. absurd (omega (arith, h))) (λ h. absurd (omega (arith, h)))
-    (λ t. no-request (reject r.setup.me rid) (reject-no_request r.setup.me rid)) (λ t. absurd (not-tick event w t))
+    (λ t. omega arith) (λ t. no-request (reject r.setup.me rid) (reject-no_request r.setup.me rid)) (λ t. absurd (not-tick event w t))
 decision-counts r event (decision.Queue request) w k e =
-    counts r _ event [] 1 0 0 refl (omega arith) (omega arith) (λ h. w) (λ h. refl) (λ h. absurd (omega (arith, h))) (λ t. refl) (λ t. quiet r.setup)
+    counts r _ event [] 1 0 0 refl (omega arith) (omega arith) (λ h. w) (λ h. refl) (λ h. absurd (omega (arith, h))) (λ t. omega arith) (λ t. refl) (λ t. quiet r.setup)
 decision-counts r event (decision.Forward request to) w k e =
     counts r _ event (forward r.setup request to ∷ []) 1 1 0 refl refl (omega arith) (λ h. w) (λ h. no-refusal (forward r.setup request to) e) (λ h. absurd (omega (arith, h)))
-    (λ t. one-request (forward r.setup request to) e) (λ t. absurd (not-tick event w t))
+    (λ t. omega arith) (λ t. one-request (forward r.setup request to) e) (λ t. absurd (not-tick event w t))
 decision-counts r event (decision.Close rid from) w k e =
     let o : Option (RoutedRequest × ℕ) = next r.setup.n (closed rid from r.standing) in
     let freed : RouterState = record r { standing = closed rid from r.standing; answered = r.answered + 1 } in
     counts r _ event (sends_of r.setup r.standing (decision.Close rid from)) 0 (count_by is_forward (next_marks o)) 1
     (passed_on-accepted freed o ∙ omega arith) (passed_on-forwarded freed o) (passed_on-answered freed o)
     (λ h. absurd (omega (arith, h))) (λ h. absurd (omega (arith, h))) (λ h. w)
-    (λ t. next-requests r.setup (closed rid from r.standing) k.queue) (λ t. absurd (no-tick r.setup.servers event w t))
+    (λ t. next-few r.setup o) (λ t. next-requests r.setup (closed rid from r.standing) k.queue) (λ t. absurd (no-tick r.setup.servers event w t))
 decision-counts r event decision.Repeat w k e =
     counts r _ event (sends_of r.setup r.standing decision.Repeat) 0 0 0 (omega arith) (omega arith) (omega arith)
     (λ h. absurd (omega (arith, h))) (λ h. absurd (omega (arith, h))) (λ h. absurd (omega (arith, h)))
-    (λ t. absurd (tick-is event w t))
+    (λ t. absurd (tick-is event w t)) (λ t. absurd (tick-is event w t))
     (λ t. record { none = refl; repeats = repeats-requests r.setup.me r.setup.servers r.standing.rows k.rows; at_most_one = repeats-few r.setup.me r.setup.servers r.standing.rows })
 
 -- the counts of a turn go with what it took and sent
@@ -160,9 +166,6 @@ turn-counts r r' event given d is becomes sends k e =
     (subst (λ (l : List Datagram). CountsPackets r event l (counted (carried_out r d))) (sym sends) (decision-counts r event d w k e))
 
 -- no more datagrams are sent than there may be servers
-next-few : (setup : RouterSetup) (o : Option (RoutedRequest × ℕ)) → length (next_sends setup o) ≤ 1
-next-few setup None = omega arith
-next-few setup (Some (request, to)) = omega arith
 
 decision-few : (setup : RouterSetup) (s : Standing) (d : Decision) → length setup.servers ≤ most_servers → length (sends_of setup s d) ≤ most_servers
 decision-few setup s decision.Nothing few = omega arith

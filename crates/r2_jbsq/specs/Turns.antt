@@ -30,12 +30,14 @@ pub record GrowsByOne (r r' : RouterState) : Type 0 where
   pub answered : r.answered ≤ r'.answered
   pub one_answered : r'.answered ≤ r.answered + 1
 
--- a request is accepted only where a client makes one that isn't refused, and answered only where a server says so; the
--- forwarded ones are the requests that are sent, but for a tick, at which each server gets at most one again
+-- a request is accepted only where a client makes one that isn't refused, and answered only where a server says so; one
+-- datagram is sent at most, and the forwarded requests are those that are sent, but for a tick, at which each server gets at
+-- most one again
 pub record CountsPackets (r : RouterState) (event : Event) (given : List Datagram) (r' : RouterState) : Type 0 where
   pub asked : r.accepted < r'.accepted → asks event ≡ true
   pub taken : r.accepted < r'.accepted → refusals_among given ≡ 0
   pub answered : r.answered < r'.answered → answers r.setup.servers event ≡ true
+  pub one : is_tick event ≡ false → length given ≤ 1
   pub forwarded : is_tick event ≡ false → r'.forwarded ≡ r.forwarded + requests_among given
   pub stays : is_tick event ≡ true → r'.forwarded ≡ r.forwarded
   pub repeats : is_tick event ≡ true → requests_among given ≡ length given

@@ -16,12 +16,12 @@ use Rattle.r2_frag.specs.Pending.{AreDistinct}
 use Rattle.r2_frag.proofs.Finding.{same_key-comm}
 use Rattle.r2_frag.proofs.SameKeys.{same_key-same, same_key-true}
 use Rattle.r2_server.specs.declared.timers.Timer.{Timer}
-use Rattle.r2_server.specs.Ages.{ageing, is_routed}
+use Rattle.r2_server.specs.Ages.{ageing, is_jbsq}
 use Rattle.r2_server.specs.Timers.{due, given_up, is_due, is_for, key_for, not_due, started, started_for, stopped, stopped_for}
 
--- a message's key is that of its request, where it came by the router
+-- a message's key is that of its request, where it is under JBSQ
 abbrev pub IsKnown : Unfinished → Type 0
-IsKnown m = is_routed m ≡ true → m.key ≡ key_for m.key.rid
+IsKnown m = is_jbsq m ≡ true → m.key ≡ key_for m.key.rid
 
 -- the timer of a message
 abbrev timer_of : (Key → ℕ) → Unfinished → Timer
@@ -45,10 +45,10 @@ each-begun P (m ∷ rest) h =
 
 module _ (since : Key → ℕ) where
   -- one message more, before the others
-  ageing-routed : (m : Unfinished) (rest : List Unfinished) → is_routed m ≡ true → ageing since (m ∷ rest) ≡ timer_of since m ∷ ageing since rest
+  ageing-routed : (m : Unfinished) (rest : List Unfinished) → is_jbsq m ≡ true → ageing since (m ∷ rest) ≡ timer_of since m ∷ ageing since rest
   ageing-routed m rest t = rw t refl
 
-  ageing-other : (m : Unfinished) (rest : List Unfinished) → is_routed m ≡ false → ageing since (m ∷ rest) ≡ ageing since rest
+  ageing-other : (m : Unfinished) (rest : List Unfinished) → is_jbsq m ≡ false → ageing since (m ∷ rest) ≡ ageing since rest
   ageing-other m rest f = rw f refl
 
   -- ages that are the same for each message
@@ -57,7 +57,7 @@ module _ (since : Key → ℕ) where
   ageing-same later (m ∷ rest) all =
       let here = All-head (λ (m : Unfinished). since m.key ≡ later m.key) m rest all in
       let tail = ageing-same later rest (All-tail (λ (m : Unfinished). since m.key ≡ later m.key) m rest all) in
-      elim (cases_Bool (is_routed m)) [ inl t ↦ rw (t, here, tail) refl | inr f ↦ rw f tail ]
+      elim (cases_Bool (is_jbsq m)) [ inl t ↦ rw (t, here, tail) refl | inr f ↦ rw f tail ]
 
   -- one message in the place of that with its key
   pub ageing-put : (next : Unfinished) (messages : List Unfinished) → ageing since (put next messages) ≡ ageing since messages
@@ -67,14 +67,14 @@ module _ (since : Key → ℕ) where
       elim (cases_Bool (is_of next.key m)) [
         | inl t ↦
             (let same : m.key ≡ next.key = same_key-true m.key next.key t in
-            let here : is_routed next ≡ is_routed m = ap (λ (k : Key). k.policy == jbsq) (sym same) in
-            elim (cases_Bool (is_routed m)) [
+            let here : is_jbsq next ≡ is_jbsq m = ap (λ (k : Key). k.policy == jbsq) (sym same) in
+            elim (cases_Bool (is_jbsq m)) [
               | inl r ↦ rw (t, here, r, same) refl
               | inr r ↦ rw (t, here, r) refl
             ])
         | inr f ↦
             (let tail = ageing-put next rest in
-            elim (cases_Bool (is_routed m)) [ inl r ↦ rw (f, r, tail) refl | inr r ↦ rw (f, r) tail ])
+            elim (cases_Bool (is_jbsq m)) [ inl r ↦ rw (f, r, tail) refl | inr r ↦ rw (f, r) tail ])
       ]
 
   -- one message more at the end
@@ -82,7 +82,7 @@ module _ (since : Key → ℕ) where
   ageing-push [] next = refl
   ageing-push (m ∷ rest) next =
       let tail = ageing-push rest next in
-      elim (cases_Bool (is_routed m)) [ inl r ↦ rw (r, tail) refl | inr r ↦ rw r tail ]
+      elim (cases_Bool (is_jbsq m)) [ inl r ↦ rw (r, tail) refl | inr r ↦ rw r tail ]
 
   -- a message of another policy leaves
   pub ageing-without_other : (key : Key) (messages : List Unfinished) → (key.policy == jbsq) ≡ false → ageing since (without key messages) ≡ ageing since messages
@@ -92,15 +92,15 @@ module _ (since : Key → ℕ) where
       elim (cases_Bool (is_of key m)) [
         | inl t ↦
             (let same : m.key ≡ key = same_key-true m.key key t in
-            let here : is_routed m ≡ false = ap (λ (k : Key). k.policy == jbsq) same ∙ other in
+            let here : is_jbsq m ≡ false = ap (λ (k : Key). k.policy == jbsq) same ∙ other in
             rw (t, here) refl)
         | inr f ↦
             (let tail = ageing-without_other key rest other in
-            elim (cases_Bool (is_routed m)) [ inl r ↦ rw (f, r, tail) refl | inr r ↦ rw (f, r) tail ])
+            elim (cases_Bool (is_jbsq m)) [ inl r ↦ rw (f, r, tail) refl | inr r ↦ rw (f, r) tail ])
       ]
 
 -- a message with another key than a request's isn't of that request
-apart : (key : Key) (m : Unfinished) → IsKnown m → is_routed m ≡ true → key ≡ key_for key.rid → is_of key m ≡ false → same_rid m.key.rid key.rid ≡ false
+apart : (key : Key) (m : Unfinished) → IsKnown m → is_jbsq m ≡ true → key ≡ key_for key.rid → is_of key m ≡ false → same_rid m.key.rid key.rid ≡ false
 apart key m known routed is other =
     false_from_ne_true (same_rid m.key.rid key.rid) (λ t.
     let rid : m.key.rid ≡ key.rid = same_rid-true m.key.rid key.rid t in
@@ -125,7 +125,7 @@ none_stops since key [] is known none = refl
 none_stops since key (m ∷ rest) is known none =
     let parts = not_first (is_of key) m rest none in
     let tail = none_stops since key rest is (All-tail IsKnown m rest known) parts.1 in
-    elim (cases_Bool (is_routed m)) [
+    elim (cases_Bool (is_jbsq m)) [
       | inl r ↦
           (let other = apart key m (All-head IsKnown m rest known) r is parts.0 in
           rw r (rw other (ap (λ (ts : List Timer). timer_of since m ∷ ts) tail)))
@@ -141,14 +141,14 @@ ageing-without_this since key (m ∷ rest) is d known =
     elim (cases_Bool (is_of key m)) [
       | inl t ↦
           (let same : m.key ≡ key = same_key-true m.key key t in
-          let routed : is_routed m ≡ true = ap (λ (k : Key). k.policy == jbsq) (same ∙ is) in
+          let routed : is_jbsq m ≡ true = ap (λ (k : Key). k.policy == jbsq) (same ∙ is) in
           let rid : same_rid m.key.rid key.rid ≡ true = subst (λ (k : Key). same_rid k.rid key.rid ≡ true) (sym same) (same_rid-same key.rid) in
           let none : find (is_of key) rest ≡ None = subst (λ (k : Key). find (is_of k) rest ≡ None) same d.0 in
           let tail = none_stops since key rest is (All-tail IsKnown m rest known) none in
           rw (t, routed) (rw rid (sym tail)))
       | inr f ↦
           (let tail = ageing-without_this since key rest is d.1 (All-tail IsKnown m rest known) in
-          elim (cases_Bool (is_routed m)) [
+          elim (cases_Bool (is_jbsq m)) [
             | inl r ↦
                 (let other = apart key m (All-head IsKnown m rest known) r is f in
                 rw (f, r) (rw other (ap (λ (ts : List Timer). timer_of since m ∷ ts) tail)))
@@ -163,7 +163,7 @@ none_ages since key [] is known none = refl
 none_ages since key (m ∷ rest) is known none =
     let parts = not_first (is_of key) m rest none in
     let tail = none_ages since key rest is (All-tail IsKnown m rest known) parts.1 in
-    elim (cases_Bool (is_routed m)) [
+    elim (cases_Bool (is_jbsq m)) [
       | inl r ↦
           (let other = apart key m (All-head IsKnown m rest known) r is parts.0 in
           rw r (rw other tail))
@@ -178,12 +178,12 @@ some_ages since key (m ∷ rest) routed e =
     elim (cases_Bool (is_of key m)) [
       | inl t ↦
           (let same : m.key ≡ key = same_key-true m.key key t in
-          let here : is_routed m ≡ true = ap (λ (k : Key). k.policy == jbsq) same ∙ routed in
+          let here : is_jbsq m ≡ true = ap (λ (k : Key). k.policy == jbsq) same ∙ routed in
           let rid : same_rid m.key.rid key.rid ≡ true = subst (λ (k : Key). same_rid k.rid key.rid ≡ true) (sym same) (same_rid-same key.rid) in
           rw here (rw rid refl))
       | inr f ↦
           (let tail = some_ages since key rest routed (rw f at e) in
-          elim (cases_Bool (is_routed m)) [
+          elim (cases_Bool (is_jbsq m)) [
             | inl r ↦ rw r (rw tail (or_true (same_rid m.key.rid key.rid)))
             | inr r ↦ rw r tail
           ])
@@ -204,7 +204,7 @@ unfolding is_begun started
 ageing-begun since next messages is known new =
     let none : find (is_of next.key) messages ≡ None = not_some (find (is_of next.key) messages) new in
     let pushed = ageing-push since messages next in
-    elim (cases_Bool (is_routed next)) [
+    elim (cases_Bool (is_jbsq next)) [
       | inl r ↦
           (let first = none_ages since next.key messages (is r) known none in
           rw pushed (rw (r, first) refl))
@@ -247,7 +247,7 @@ others_age since m [] known none = All-nil (λ (t : Timer). is_of (key_for t.rid
 others_age since m (n ∷ rest) known none =
     let parts = not_first (is_of m.key) n rest none in
     let tail = others_age since m rest (All-tail IsKnown n rest known) parts.1 in
-    elim (cases_Bool (is_routed n)) [
+    elim (cases_Bool (is_jbsq n)) [
       | inl r ↦
           (let apart : same_key m.key n.key ≡ false = same_key-comm n.key m.key parts.0 in
           let here : same_key m.key (key_for n.key.rid) ≡ false = subst (λ (k : Key). same_key m.key k ≡ false) (All-head IsKnown n rest known r) apart in
@@ -283,7 +283,7 @@ ageing-due since tick (m ∷ rest) d known =
     let others = All-filter (is_due tick) (λ (t : Timer). is_of (key_for t.rid) m ≡ false) ts (others_age since m rest behind d.0) in
     let stays = keeps_first late m rest others in
     let F : List Timer → List Timer = λ l. ageing since (given_up l (m ∷ rest)) in
-    elim (cases_Bool (is_routed m)) [
+    elim (cases_Bool (is_jbsq m)) [
       | inr r ↦
           (let a = ageing-other since m rest r in
           ap (λ (l : List Timer). F (due tick l)) a ∙ ap (ageing since) stays ∙ ageing-other since m (given_up late rest) r ∙ tail ∙ ap (not_due tick) (sym a))

@@ -1,4 +1,4 @@
--- The requests that age are the unfinished ones that came by the router, each since the tick at which it began.
+-- The requests that age are the unfinished ones under JBSQ, each since the tick at which it began.
 use Rattle.std.proofs.Common.{◌≡◌, ◌+◌, ◌==◌, ◌∙◌, ltb, inl, inr, ℕ, Bool, true, false, cond, length, List, [], ◌∷◌, drop, Option, Some, None, refl, sym, ap, subst, arith}
 use Rattle.std.specs.Prelude.{Result, Ok, Err}
 use Rattle.std.specs.List.{All}
@@ -30,7 +30,7 @@ use Rattle.r2_frag.specs.Pending.{AreDistinct}
 use Rattle.r2_frag.proofs.OneBody.{key-next}
 use Rattle.r2_frag.proofs.Outcomes.{All-without, left, outcome}
 use Rattle.r2_server.specs.declared.timers.Timer.{Timer}
-use Rattle.r2_server.specs.Ages.{RequestsAgeRight, ageing, began, is_routed, is_tick, routed_keys, state_after, ticks_in, timer_keys}
+use Rattle.r2_server.specs.Ages.{RequestsAgeRight, ageing, began, is_jbsq, is_tick, jbsq_keys, state_after, ticks_in, timer_keys}
 use Rattle.r2_server.specs.Sound.{IsSound}
 use Rattle.r2_server.specs.State.{ServerState}
 use Rattle.r2_server.specs.Timers.{due, given_up, key_for, not_due, started_for, stopped_for}
@@ -40,12 +40,12 @@ use Rattle.r2_server.proofs.Choices.{branch}
 use Rattle.r2_server.proofs.Sound.{begin_sound, turned_sound}
 use Rattle.r2_server.proofs.Taken.{taken-known}
 
--- each unfinished message that came by the router is a request, and those that age are these
+-- each unfinished message under JBSQ is a request, and those that age are these
 pub record Ages (since : Key → ℕ) (s : ServerState) : Type 0 where
   pub known : All IsKnown s.unfinished
   pub same : s.timers ≡ ageing since s.unfinished
 
--- a key that came by the router is a request's
+-- a key under JBSQ is a request's
 abbrev IsKnownKey : Key → Type 0
 IsKnownKey key = (key.policy == jbsq) ≡ true → key ≡ key_for key.rid
 
@@ -312,14 +312,14 @@ right_always me router [] = right_at_first me router
 right_always me router (event ∷ earlier) = right_goes_on me router event earlier (right_always me router earlier)
 
 -- the keys of those that age
-ageing-keys : (since : Key → ℕ) (messages : List Unfinished) → All IsKnown messages → timer_keys (ageing since messages) ≡ routed_keys messages
+ageing-keys : (since : Key → ℕ) (messages : List Unfinished) → All IsKnown messages → timer_keys (ageing since messages) ≡ jbsq_keys messages
 ageing-keys since [] known = refl
 ageing-keys since (m ∷ rest) known =
     let tail = ageing-keys since rest (All-tail IsKnown m rest known) in
-    elim (cases_Bool (is_routed m)) [
+    elim (cases_Bool (is_jbsq m)) [
       | inl r ↦
           (let here : m.key ≡ key_for m.key.rid = All-head IsKnown m rest known r in
-          rw r (ap (λ (ks : List Key). key_for m.key.rid ∷ ks) tail ∙ ap (λ (k : Key). k ∷ routed_keys rest) (sym here)))
+          rw r (ap (λ (ks : List Key). key_for m.key.rid ∷ ks) tail ∙ ap (λ (k : Key). k ∷ jbsq_keys rest) (sym here)))
       | inr r ↦ rw r tail
     ]
 

@@ -54,7 +54,7 @@ taken router from to h key valid e is =
     let policy = taken-policy router from h h.packet is in
     subst (λ (k : Key). IsPartOfRequest h k) same (record { valid = valid; class = class; request = refl; policy = policy })
 
--- and where it came by the router, its key is that of the request
+-- and where it is under JBSQ, its key is that of the request
 pub taken-known : (router : Option Addr) (from to : Addr) (h : Header) (key : Key)
     → key_at from to h ≡ Some key → is_taken router from h h.packet ≡ true → (key.policy == jbsq) ≡ true → key ≡ key_for key.rid
 unfolding key_at

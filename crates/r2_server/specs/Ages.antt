@@ -35,26 +35,26 @@ began me router [] key = 0
 began me router (event ∷ earlier) key =
     if is_begun key (state_after me router earlier).unfinished then began me router earlier key else ticks_in earlier
 
--- whether a message is a request that came by the router
-abbrev pub is_routed : Unfinished → Bool
-is_routed m = m.key.policy == jbsq
+-- whether a message is a request under JBSQ
+abbrev pub is_jbsq : Unfinished → Bool
+is_jbsq m = m.key.policy == jbsq
 
--- the requests among messages that came by the router, in their order, each with the tick since which it ages
+-- the requests under JBSQ among messages, in their order, each with the tick since which it ages
 abbrev pub ageing : (Key → ℕ) → List Unfinished → List Timer
-ageing since messages = map (λ (m : Unfinished). record { rid = m.key.rid; began = since m.key }) (filter is_routed messages)
+ageing since messages = map (λ (m : Unfinished). record { rid = m.key.rid; began = since m.key }) (filter is_jbsq messages)
 
--- the keys of timers, and those of messages that came by the router
+-- the keys of timers, and those of requests under JBSQ
 abbrev pub timer_keys : List Timer → List Key
 timer_keys timers = map (λ (t : Timer). key_for t.rid) timers
 
-abbrev pub routed_keys : List Unfinished → List Key
-routed_keys messages = map (λ (m : Unfinished). m.key) (filter is_routed messages)
+abbrev pub jbsq_keys : List Unfinished → List Key
+jbsq_keys messages = map (λ (m : Unfinished). m.key) (filter is_jbsq messages)
 
--- the timers are of the unfinished requests that came by the router, in the order in which they were begun, each since the
--- tick at which the part came that began it
+-- the timers are of the unfinished requests under JBSQ, in the order in which they were begun, each since the tick at which
+-- the part came that began it
 pub record AgeRight (me : Addr) (router : Option Addr) (events : List Event) (s : ServerState) : Type 0 where
   pub ticks : s.ticks ≡ ticks_in events
-  pub keys : timer_keys s.timers ≡ routed_keys s.unfinished
+  pub keys : timer_keys s.timers ≡ jbsq_keys s.unfinished
   pub ages : s.timers ≡ ageing (began me router events) s.unfinished
 
 -- so it is after any events

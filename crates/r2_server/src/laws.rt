@@ -8,7 +8,7 @@ pub fn stays_within_limits()
     ensures { StaysWithinLimits }
 {}
 
-/// The requests that a server will give up are its unfinished ones that came by the router, in the order in which they were
+/// The requests that a server will give up are its unfinished ones under JBSQ, in the order in which they were
 /// begun, each since the tick at which the part came that began it.
 pub fn requests_age_right()
     ensures { RequestsAgeRight }

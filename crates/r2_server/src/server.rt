@@ -13,8 +13,8 @@ use std::marker::Model;
 ///
 /// It takes requests of the policy FIXED from anybody, and of the policy JBSQ by its router. Each is served once, as long
 /// as its reply is among the last 1,024, which are kept; a repeated request gets that reply again. An unfinished request
-/// that came by the router is given up at the 200th tick, or where 256 others were begun after it, and the router is told
-/// of each that is answered or given up.
+/// under JBSQ is given up at the 200th tick, or where 256 others were begun after it, and the router is told of each that is
+/// answered or given up.
 #[derive(Drop)]
 pub struct Server<V: Writes> {
     live: Option<LiveServer<V>>,
