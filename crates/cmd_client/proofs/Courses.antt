@@ -113,7 +113,7 @@ goes-then t u a b c xs before after Then More went asks on goes = record {
   then = on goes.behind goes.steps goes.then;
 }
 
--- where steps go on after some, the talk is the same, seen from before those
+-- the talk after more steps is the one after all of them, from the start
 last-then : (t u : Talk) (xs before : List Step) → u ≡ (course t xs).next → (course u before).next ≡ (course t (xs ++ before)).next
 last-then t u xs before left = ap (λ (w : Talk). (course w before).next) left ∙ sym (next-then t xs before)
 

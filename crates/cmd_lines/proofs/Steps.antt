@@ -11,7 +11,7 @@ use Rattle.cmd_lines.specs.Steps.{IsSound}
 use Rattle.std.specs.Io.KnownBytes.{Consumes}
 use Rattle.cmd_lines.proofs.Fronts.{known_is_no_part}
 
--- what is left of a text is one
+-- a text without its first bytes is one
 pub text_behind : (text : List ℕ) (n : ℕ) → IsText text → IsText (drop n text)
 text_behind text n is = record {
   one_line = All-drop (λ b. b ≢ 10) n text is.one_line;

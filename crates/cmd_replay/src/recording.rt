@@ -52,7 +52,8 @@ fn keep(records: &mut Records, reaction: Turn) -> Result<(), NoMemory>
     }
 }
 
-/// Makes the member anew from the records of its turns. Each may come next after those before it, so only memory can fail.
+/// Makes the member anew from the records of its turns. Each may come next after those before it, so it fails only where
+/// memory runs out.
 fn restart(alloc: Global, member: &mut Member, records: &Records) -> Result<(), NoMemory>
     requires history { IsHistory records.now }
     requires state { replay records.now ≡ durable_of member.old }

@@ -104,7 +104,7 @@ extra_is_behind_a_record (v ∷ bytes) are e =
       same = ap (λ (n : ℕ). n ∷ bytes) is.0 ∙ read.taken.parts;
     }
 
--- no bytes read as a fault of memory
+-- no bytes read as the fault Memory
 ended_memory : (read : Result (Record × List ℕ) FieldFault) → ended read ≡ Err Memory → ⊥
 ended_memory (Ok (n, [])) e = cc
 ended_memory (Ok (n, b ∷ rest)) e = cc

@@ -43,7 +43,7 @@ pub record HasRecordInFront (bytes : List ℕ) : Type 0 where
 abbrev pub ExtraIsBehindARecord : Type 0
 ExtraIsBehindARecord = (bytes : List ℕ) → AreBytes bytes → decode_record bytes ≡ Err Extra → HasRecordInFront bytes
 
--- no bytes read as a fault of memory
+-- no bytes read as the fault Memory
 abbrev pub NoBytesWantMemory : Type 0
 NoBytesWantMemory = (bytes : List ℕ) → decode_record bytes ≢ Err Memory
 

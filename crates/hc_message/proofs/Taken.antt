@@ -352,7 +352,7 @@ ended_memory (Ok (n, [])) e = absurd cc
 ended_memory (Ok (n, b ∷ rest)) e = absurd cc
 ended_memory (Err fault) e = cc
 
--- no bytes read as a fault of memory
+-- no bytes read as the fault Memory
 pub no_bytes_want_memory : NoBytesWantMemory
 unfolding decode_message
 no_bytes_want_memory [] e = cc

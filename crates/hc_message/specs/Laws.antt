@@ -56,7 +56,7 @@ pub record HasMessageInFront (bytes : List ℕ) : Type 0 where
 abbrev pub ExtraIsBehindAMessage : Type 0
 ExtraIsBehindAMessage = (bytes : List ℕ) → AreBytes bytes → decode_message bytes ≡ Err Extra → HasMessageInFront bytes
 
--- no bytes read as a fault of memory
+-- no bytes read as the fault Memory
 abbrev pub NoBytesWantMemory : Type 0
 NoBytesWantMemory = (bytes : List ℕ) → decode_message bytes ≢ Err Memory
 

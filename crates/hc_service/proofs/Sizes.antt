@@ -70,7 +70,7 @@ size-without k (e ∷ es) h = by (R k e.0) refl (size-without k es (second _ _ h
         omega (arith, total-cons e es, ap length key, ap (found_size k) none)
     by Greater p later = omega (arith, total-cons e es, total-cons e (where_key R (λ x. not (eq_by_cmp R k x)) es))
 
--- the bytes after a pair was set
+-- how many bytes there are after a pair was set
 pub size-insert : (m : Contents) (k v : List ℕ) → size_of (finite.insert m k v) + found_size k (finite.get m k) ≡ size_of m + (length k + length v)
 unfolding size_of
 size-insert m k v =
@@ -97,7 +97,7 @@ entries-remove m k =
     ap finite.entries (finite.same_map nat_list_cmp_total R-IsAntisymmetric (finite.remove m k) (finite.from_entries left) same)
     ∙ entries-from_entries left (is_sorted-where_key R (λ x. not (eq_by_cmp R k x)) (finite.entries m) (finite.entries_sorted m))
 
--- the bytes after a key was taken out
+-- how many bytes there are after a key was taken out
 pub size-remove : (m : Contents) (k : List ℕ) → size_of (finite.remove m k) + found_size k (finite.get m k) ≡ size_of m
 unfolding size_of
 size-remove m k = rw (entries-remove m k, finite.get-entries m k) (size-without k (finite.entries m) (finite.entries_sorted m))

@@ -1,4 +1,4 @@
--- Which prefixes lists share.
+-- Lists that share a prefix.
 use Rattle.std.proofs.Common.{◌≡◌, ℕ, suc, ◌<◌, ◌≤◌, List, [], ◌∷◌, ◌++◌, length, take, get_or, refl, sym, ap, ◌∙◌, arith, length-append, length-take, get_or-take, take-take}
 use Rattle.std.proofs.lemmas.List.{take-append-le}
 use Rattle.r2_base.specs.declared.entry.Entry.{Entry}

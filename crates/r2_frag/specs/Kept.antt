@@ -1,4 +1,4 @@
--- The replies that are kept, the oldest first, and the index that shows which requests have none.
+-- The replies that are kept, the oldest first, and the index that can show that a request has none.
 use Rattle.std.specs.Prelude.{◌≡◌, ℕ, ◌+◌, ◌*◌, ◌%◌, ◌<◌, ◌≤◌, ◌==◌, List, [], ◌∷◌, ◌++◌, length, reverse, slice_index, count_by, Option}
 use Rattle.std.specs.List.{find}
 use Rattle.circular_buffer.specs.Buffer.{Buffer, keep_last}
