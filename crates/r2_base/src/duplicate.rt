@@ -15,6 +15,12 @@ impl Duplicate for u8 {
     }
 }
 
+impl Duplicate for u16 {
+    fn duplicate(&self, _alloc: Global) -> Result<Self, NoMemory> {
+        Ok(*self)
+    }
+}
+
 impl Duplicate for u64 {
     fn duplicate(&self, _alloc: Global) -> Result<Self, NoMemory> {
         Ok(*self)
