@@ -67,7 +67,8 @@ pub record AreQueues (queues : List Row) : Type 0 where
   pub few : length queues ≤ most_members
   pub each : All IsRow queues
 
--- the member that is to answer: it is below its bound, no other that is has fewer, and each that stands before it has more
+-- the member that is to answer: it is below its bound, no other that is below its own has fewer, and each of those before it has
+-- more
 pub record IsChosen (queues : List Row) (member : ℕ) : Type 0 where
   pub is_member : member < length queues
   pub below : HasPlace (row_at queues member)
