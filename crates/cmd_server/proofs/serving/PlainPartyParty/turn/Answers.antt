@@ -1,4 +1,4 @@
-use Rattle.hc_tops.specs.declared.plain.PlainParty.{PlainParty}
+use Rattle.cmd_server.specs.declared.serving.PlainParty.{PlainParty}
 use Rattle.cmd_server.proofs.PlainTurns.{turn-sends}
 use Rattle.cmd_server.proofs.serving.PlainPartyParty.turn.Goals as goal
 
