@@ -5,6 +5,7 @@ import cases
 import formats
 import repetitions
 import running
+import writing
 
 NO_LINE = b"no line of a script\n"
 NOTED = 60  # records and datagrams of a case up to which each has a note
@@ -23,8 +24,8 @@ def printed_by_replay(run, lines):
     a line that is none of a script's, which ends the run."""
 
     def printed(count):
-        ended = running.run_case(cases.Case("", "", [], [[run._replace(input=b"".join(lines[:count]) + NO_LINE)]]))
-        return len(ended[0].output)
+        outcome = running.run_case(cases.case_of(run._replace(input=b"".join(lines[:count]) + NO_LINE)))
+        return len(outcome.ended[0].output)
 
     found = [0] * len(lines)
 
@@ -74,7 +75,7 @@ def merged(order):
     found = []
     for mark, row in itertools.groupby(order, lambda each: each[0]):
         lines = [line for _, line in row]
-        fields = [cases.fields_of(text_of(line)) for line in lines]
+        fields = [writing.fields_of(text_of(line)) for line in lines]
         at = 0
         while at < len(lines):
             count = len(repetitions.going_together(itertools.islice(fields, at, None)))

@@ -16,6 +16,9 @@ SECONDS = 60  # for one case
 # How a run ended: its status, which is nothing where it was ended after so many seconds, and what it printed.
 Ended = collections.namedtuple("Ended", "run status output errors")
 
+# How a case ended: how its runs did, and the files that they left, by name.
+Outcome = collections.namedtuple("Outcome", "ended files")
+
 
 def is_built():
     return os.access(PROGRAM, os.X_OK)
@@ -67,9 +70,9 @@ def has_loopback():
 
 
 class Running:
-    """A run of the program that was started. `addresses` are those that words name in braces."""
+    """A run of the program that was started in a folder. `addresses` are those that words name in braces."""
 
-    def __init__(self, run, addresses):
+    def __init__(self, run, addresses, folder):
         self.run = run
         words = [re.sub(rb"\{\w+\}", lambda name: addresses.get(name[0], name[0]), word) for word in run.words]
         place = words.index(b"--listen") + 1 if b"--listen" in words[:-1] else 0
@@ -79,7 +82,7 @@ class Running:
             given.write(run.input)
             given.seek(0)
             self.process = subprocess.Popen(
-                [os.fsencode(PROGRAM)] + words, stdin=given, stdout=subprocess.PIPE, stderr=subprocess.PIPE
+                [os.fsencode(PROGRAM)] + words, stdin=given, stdout=subprocess.PIPE, stderr=subprocess.PIPE, cwd=folder
             )
 
     def listens(self, end):
@@ -122,15 +125,33 @@ def send_all(peer, addresses):
             outside.sendto(datagram, ("127.0.0.1", port_of(peer.server, addresses)))
 
 
+def write_files(files, folder):
+    for file in files:
+        if file.before is not None:
+            with open(os.path.join(folder, file.name), "wb") as out:
+                out.write(file.before)
+
+
+def files_in(folder):
+    """The bytes of each file that is in a folder, or further inside."""
+    found = {}
+    for place, _, names in os.walk(folder):
+        for path in (os.path.join(place, name) for name in names):
+            with open(path, "rb") as file:
+                found[os.path.relpath(path, folder)] = file.read()
+    return found
+
+
 def run_case(case):
-    """Runs the programs of a case, and says how each ended."""
+    """Runs the programs of a case in a folder that has its files and no others."""
     names = sorted(names_in(case))
     addresses = dict(zip(names, free_addresses(len(names))))
     end = time.monotonic() + SECONDS
-    with contextlib.ExitStack() as started:
+    with tempfile.TemporaryDirectory() as folder, contextlib.ExitStack() as started:
+        write_files(case.files, folder)
 
         def start(run):
-            running = Running(run, addresses)
+            running = Running(run, addresses, folder)
             started.callback(running.kill)
             return running
 
@@ -146,4 +167,4 @@ def run_case(case):
         for each in serving:
             each.spends_turns(end)
             ended.append(each.ends(end))
-    return ended
+        return Outcome(ended, files_in(folder))
