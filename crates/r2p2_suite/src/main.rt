@@ -1,4 +1,4 @@
-//! Request-response pairs over UDP, a request router, and a replicated key-value store, in one program.
+//! A key-value server over UDP, its client, its router, and the replay of a replica, in one program.
 #![tactic(auto)]
 
 use hc_tops::{Status, report, run};
