@@ -4,8 +4,8 @@ use Rattle.std.specs.Prelude.{codes}
 use Rattle.r2_base.specs.Numbers.{u16_bytes}
 use Rattle.r2_base.proofs.NumberBytes.{length-u16_bytes}
 use Rattle.hex.proofs.HexLemmas.{decode_of-ok}
-use Rattle.hc_service.specs.Command.{Command, Get, Put, Del, Cas, Scan, Count}
-use Rattle.hc_service.specs.Spelling.{sized, spelling}
+use Rattle.hc_store.specs.Command.{Command, Get, Put, Del, Cas, Scan, Count}
+use Rattle.hc_store.specs.Spelling.{sized, spelling}
 use Rattle.hc_text.specs.declared.call.Call.{Call}
 use Rattle.hc_text.specs.Call.{Is, IsCallLine, IsLimitText, IsValueText, Says, Spaced}
 

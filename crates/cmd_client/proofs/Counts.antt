@@ -12,7 +12,7 @@ use Rattle.r2_client.specs.State.{SessionState}
 use Rattle.r2_client.proofs.Outcomes.{branch, outcome}
 use Rattle.cmd_loop.specs.Events.{event_of}
 use Rattle.cmd_loop.specs.Round.{due_at}
-use Rattle.cmd_client.specs.Outside.{Outside}
+use Rattle.cmd_loop.specs.Ends.{Ends}
 use Rattle.cmd_client.specs.Talk.{AreInTurn, Asked, Asks, Hears, MayTake, Step, Talk, Tells, asked_in, course, stepped_by, taken}
 use Rattle.cmd_client.specs.Stops.{Completes}
 
@@ -87,7 +87,7 @@ within t [] turns few = few
 within t (x ∷ xs) turns few = within (taken t x).next xs turns.1 (step-within t x turns.0 few)
 
 -- where the next call has no id, all were used
-pub all-used : (t u : Talk) (a b : Outside) (asked : List Asked) (room left : ℕ) (body : List ℕ) → t.session.next ≡ 0 → Completes asked room left t u a b
+pub all-used : (t u : Talk) (a b : Ends) (asked : List Asked) (room left : ℕ) (body : List ℕ) → t.session.next ≡ 0 → Completes asked room left t u a b
     → refusal u.session body ≡ Some IdsUsed → length asked ≡ id_limit
 all-used t u a b asked room left body fresh done no_id =
     let used = used-up u.session body no_id in

@@ -8,10 +8,11 @@ use Rattle.r2_client.specs.declared.call_end.CallEnd.TheVariants.{TimedOut as En
 use Rattle.hc_text.specs.End.{end_text}
 use Rattle.cmd_status.specs.declared.status.Status.{Status}
 use Rattle.cmd_status.specs.declared.status.Status.TheVariants.{Memory, SinkFault, LinkFault, ClockFault, TimedOut, TurnsSpent}
-use Rattle.cmd_client.specs.Outside.{Outside, Passes}
+use Rattle.cmd_loop.specs.Ends.{Ends}
+use Rattle.cmd_client.specs.Outside.{Talks}
 use Rattle.cmd_client.specs.Talk.{AreInTurn, Asked, Asks, Hears, Step, Talk, Tells, asked_in, course, ends_text, items_of, moments_of, taken}
 use Rattle.cmd_client.specs.Stops.{CutsLine, CutsSends, Goes, LosesStep, StopsTalk, TimesOut, Took, Waits, Went}
-use Rattle.cmd_client.proofs.Passing.{passes-none, passes-then}
+use Rattle.cmd_client.proofs.Passing.{talks-none, talks-then}
 
 pub next-then : (t : Talk) (xs ys : List Step) → (course t (xs ++ ys)).next ≡ (course (course t xs).next ys).next
 unfolding course
@@ -57,22 +58,22 @@ in-turn-then t [] ys p q = q
 in-turn-then t (x ∷ xs) ys p q = (p.0, in-turn-then (taken t x).next xs ys p.1 q)
 
 -- steps whose course is known, and then some more of which this was sent and written
-pub took-then : (t u : Talk) (a b c : Outside) (xs ys : List Step) (sends : List Datagram) (text : List ℕ)
+pub took-then : (t u : Talk) (a b c : Ends) (xs ys : List Step) (sends : List Datagram) (text : List ℕ)
     → Went t u a b xs → Took u b c ys sends text
     → Took t a c (xs ++ ys) ((course t xs).sends ++ sends) (ends_text (course t xs).ends ++ text)
 took-then t u a b c xs ys sends text went took =
-    let passed = passes-then a b c (items_of xs) (items_of ys) (moments_of xs) (moments_of ys) (course t xs).sends sends (ends_text (course t xs).ends) text went.took.passed took.passed in
+    let passed = talks-then a b c (items_of xs) (items_of ys) (moments_of xs) (moments_of ys) (course t xs).sends sends (ends_text (course t xs).ends) text went.took.passed took.passed in
     record {
       in_turn = in-turn-then t xs ys went.took.in_turn (subst (λ (v : Talk). AreInTurn v ys) went.left took.in_turn);
-      passed = subst (λ (is : List Item). Passes a c is (moments_of (xs ++ ys)) ((course t xs).sends ++ sends) (ends_text (course t xs).ends ++ text)) (sym (items-then xs ys))
-          (subst (λ (ms : List ℕ). Passes a c (items_of xs ++ items_of ys) ms ((course t xs).sends ++ sends) (ends_text (course t xs).ends ++ text)) (sym (moments-then xs ys)) passed);
+      passed = subst (λ (is : List Item). Talks a c is (moments_of (xs ++ ys)) ((course t xs).sends ++ sends) (ends_text (course t xs).ends ++ text)) (sym (items-then xs ys))
+          (subst (λ (ms : List ℕ). Talks a c (items_of xs ++ items_of ys) ms ((course t xs).sends ++ sends) (ends_text (course t xs).ends ++ text)) (sym (moments-then xs ys)) passed);
     }
 
-pub went-none : (t : Talk) (o : Outside) → Went t t o o []
+pub went-none : (t : Talk) (o : Ends) → Went t t o o []
 unfolding course items_of moments_of
-went-none t o = record { took = record { in_turn = tt; passed = passes-none o }; left = refl }
+went-none t o = record { took = record { in_turn = tt; passed = talks-none o }; left = refl }
 
-pub went-then : (t u v : Talk) (a b c : Outside) (xs ys : List Step) → Went t u a b xs → Went u v b c ys → Went t v a c (xs ++ ys)
+pub went-then : (t u v : Talk) (a b c : Ends) (xs ys : List Step) → Went t u a b xs → Went u v b c ys → Went t v a c (xs ++ ys)
 went-then t u v a b c xs ys first second =
     let took = took-then t u a b c xs ys (course u ys).sends (ends_text (course u ys).ends) first second.took in
     let sends : (course t xs).sends ++ (course u ys).sends ≡ (course t (xs ++ ys)).sends
@@ -103,7 +104,7 @@ asks-last : (xs mid : List Step) (last : Step) (before after : List Asked) → a
     → asked_in ((xs ++ mid) ++ last ∷ []) ≡ before ++ after
 asks-last xs mid last before after p q = ap asked_in (append_assoc xs mid (last ∷ [])) ∙ asks-then xs (mid ++ last ∷ []) before after p q
 
-goes-then : (t u : Talk) (a b c : Outside) (xs : List Step) (before after : List Asked) (Then More : Talk → List Step → Type 0)
+goes-then : (t u : Talk) (a b c : Ends) (xs : List Step) (before after : List Asked) (Then More : Talk → List Step → Type 0)
     → Went t u a b xs → asked_in xs ≡ before → ((v : Talk) (ys : List Step) → Then v ys → More v (xs ++ ys)) → Goes after u b c Then → Goes (before ++ after) t a c More
 goes-then t u a b c xs before after Then More went asks on goes = record {
   behind = goes.behind;
@@ -128,7 +129,7 @@ within-then : (room more : ℕ) (xs ys : List Step) → length (items_of xs) + m
 within-then room more xs ys sum within = omega (arith, few-then xs ys)
 
 -- what was taken after some steps, with the last step by itself
-took-last : (t u : Talk) (a b c : Outside) (xs before : List Step) (last : Step) (sends : List Datagram) (text : List ℕ)
+took-last : (t u : Talk) (a b c : Ends) (xs before : List Step) (last : Step) (sends : List Datagram) (text : List ℕ)
     → Went t u a b xs → Took u b c (before ++ last ∷ []) sends text
     → Took t a c ((xs ++ before) ++ last ∷ []) ((course t xs).sends ++ sends) (ends_text (course t xs).ends ++ text)
 took-last t u a b c xs before last sends text went took =
@@ -140,7 +141,7 @@ within-last : (room more : ℕ) (xs before : List Step) (last : Step) → length
 within-last room more xs before last sum within =
     subst (λ (l : List Step). length (items_of l) ≤ room) (sym (append_assoc xs before (last ∷ []))) (within-then room more xs (before ++ last ∷ []) sum within)
 
-sends-then-cut : (t u : Talk) (a b c : Outside) (xs : List Step) (before after : List Asked) (room more : ℕ) → Went t u a b xs → asked_in xs ≡ before → length (items_of xs) + more ≡ room → CutsSends after more u b c → CutsSends (before ++ after) room t a c
+sends-then-cut : (t u : Talk) (a b c : Ends) (xs : List Step) (before after : List Asked) (room more : ℕ) → Went t u a b xs → asked_in xs ≡ before → length (items_of xs) + more ≡ room → CutsSends after more u b c → CutsSends (before ++ after) room t a c
 sends-then-cut t u a b c xs before after room more went asks sum cut =
     let took = took-last t u a b c xs cut.before cut.last ((course u cut.before).sends ++ cut.front) (ends_text (course u cut.before).ends) went cut.took in
     let sends : (course t xs).sends ++ ((course u cut.before).sends ++ cut.front) ≡ (course t (xs ++ cut.before)).sends ++ cut.front
@@ -157,7 +158,7 @@ sends-then-cut t u a b c xs before after room more went asks sum cut =
       within = within-last room more xs cut.before cut.last sum cut.within;
     }
 
-line-then-cut : (t u : Talk) (a b c : Outside) (xs : List Step) (before after : List Asked) (room more : ℕ) → Went t u a b xs → asked_in xs ≡ before → length (items_of xs) + more ≡ room → CutsLine after more u b c → CutsLine (before ++ after) room t a c
+line-then-cut : (t u : Talk) (a b c : Ends) (xs : List Step) (before after : List Asked) (room more : ℕ) → Went t u a b xs → asked_in xs ≡ before → length (items_of xs) + more ≡ room → CutsLine after more u b c → CutsLine (before ++ after) room t a c
 line-then-cut t u a b c xs before after room more went asks sum cut =
     let last_sends = (taken (course u cut.before).next cut.last).sends in
     let took = took-last t u a b c xs cut.before cut.last ((course u cut.before).sends ++ last_sends) (ends_text (course u cut.before).ends ++ cut.front) went cut.took in
@@ -181,7 +182,7 @@ line-then-cut t u a b c xs before after room more went asks sum cut =
       within = within-last room more xs cut.before cut.last sum cut.within;
     }
 
-step-then-lost : (t u : Talk) (a b c : Outside) (xs : List Step) (before after : List Asked) (room more : ℕ) → Went t u a b xs → asked_in xs ≡ before → length (items_of xs) + more ≡ room → LosesStep after more u b c → LosesStep (before ++ after) room t a c
+step-then-lost : (t u : Talk) (a b c : Ends) (xs : List Step) (before after : List Asked) (room more : ℕ) → Went t u a b xs → asked_in xs ≡ before → length (items_of xs) + more ≡ room → LosesStep after more u b c → LosesStep (before ++ after) room t a c
 step-then-lost t u a b c xs before after room more went asks sum lost =
     let took = took-last t u a b c xs lost.before lost.last (course u lost.before).sends (ends_text (course u lost.before).ends) went lost.took in
     record {
@@ -202,7 +203,7 @@ times-out-then t u xs ys left out = record {
 }
 
 -- some steps were taken whole, and then a call stopped
-pub stops-then : (t u : Talk) (a b c : Outside) (xs : List Step) (before after : List Asked) (room more : ℕ) (status : Status)
+pub stops-then : (t u : Talk) (a b c : Ends) (xs : List Step) (before after : List Asked) (room more : ℕ) (status : Status)
     → Went t u a b xs → asked_in xs ≡ before → length (items_of xs) + more ≡ room → StopsTalk after more u b c status → StopsTalk (before ++ after) room t a c status
 stops-then t u a b c xs before after room more TurnsSpent went asks sum stops =
     goes-then t u a b c xs before after (λ v ys. Waits v × (length (items_of ys) ≡ more)) (λ v ys. Waits v × (length (items_of ys) ≡ room)) went asks

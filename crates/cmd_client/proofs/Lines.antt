@@ -10,27 +10,28 @@ use Rattle.hc_text.specs.declared.call.Call.{Call}
 use Rattle.hc_text.specs.Call.{IsCallLine}
 use Rattle.hc_text.specs.Policy.{policy_number}
 use Rattle.cmd_client.specs.Lines.{MakesLine, StopsLine}
-use Rattle.cmd_client.specs.Outside.{Outside}
-use Rattle.cmd_client.specs.Script.{AsksFor, Say}
+use Rattle.cmd_loop.specs.Ends.{Ends}
+use Rattle.cmd_lines.specs.Script.{Say}
+use Rattle.cmd_client.specs.Script.{AsksFor}
 use Rattle.cmd_client.specs.Stops.{Completes, StopsCall}
 use Rattle.cmd_client.specs.Talk.{Asked, Talk, asked_in, items_of}
 use Rattle.cmd_client.proofs.Courses.{went-none}
 
 -- an empty line asks for nothing
-pub makes-nothing : (policy : Policy) (room : ℕ) (t : Talk) (o : Outside) → t.session.open_call ≡ None → MakesLine policy [] room room t t o o
+pub makes-nothing : (policy : Policy) (room : ℕ) (t : Talk) (o : Ends) → t.session.open_call ≡ None → MakesLine policy [] room room t t o o
 unfolding asked_in items_of
 makes-nothing policy room t o none =
     record { asked = []; said = refl; made = record { steps = []; went = went-none t o; asks = refl; none = none; counted = omega arith } }
 
-pub say-one : (policy : Policy) (line : List ℕ) (call : Asked) → line ≢ [] → AsksFor policy line call → Say policy (line ∷ []) (call ∷ [])
+pub say-one : (policy : Policy) (line : List ℕ) (call : Asked) → line ≢ [] → AsksFor policy line call → Say (AsksFor policy) (line ∷ []) (call ∷ [])
 say-one policy [] call some asks = absurd (some refl)
 say-one policy (b ∷ text) call some asks = (asks, refl)
 
-pub makes-one : (policy : Policy) (line : List ℕ) (call : Asked) (room left : ℕ) (t u : Talk) (a b : Outside) → line ≢ [] → AsksFor policy line call
+pub makes-one : (policy : Policy) (line : List ℕ) (call : Asked) (room left : ℕ) (t u : Talk) (a b : Ends) → line ≢ [] → AsksFor policy line call
     → Completes (call ∷ []) room left t u a b → MakesLine policy line room left t u a b
 makes-one policy line call room left t u a b some asks made = record { asked = call ∷ []; said = say-one policy line call some asks; made = made }
 
-pub stops-one : (policy : Policy) (line : List ℕ) (number : ℕ) (call : Asked) (room : ℕ) (t : Talk) (a b : Outside) (status : Status) → line ≢ [] → AsksFor policy line call
+pub stops-one : (policy : Policy) (line : List ℕ) (number : ℕ) (call : Asked) (room : ℕ) (t : Talk) (a b : Ends) (status : Status) → line ≢ [] → AsksFor policy line call
     → StopsCall call room t a b status → StopsLine policy line number room t a b status
 stops-one policy line number call room t a b Memory some asks stops = inr (record { nonempty = some; call = call; asks = asks; stops = stops })
 stops-one policy line number call room t a b IdsUsed some asks stops = record { nonempty = some; call = call; asks = asks; stops = stops }

@@ -7,8 +7,8 @@ use Rattle.r2_base.specs.declared.event.Event.{Event}
 use Rattle.r2_base.specs.declared.event.Event.TheVariants.{Tick}
 use Rattle.r2_link.specs.declared.lane.Item.{Item}
 use Rattle.r2_link.specs.declared.lane.Item.TheVariants.{Datagram as ADatagram, Quiet as NoDatagram}
-use Rattle.r2_link.specs.Told.{IsKept, Gains}
-use Rattle.r2_link.specs.Moments.{Gives}
+use Rattle.r2_link.specs.Links.{LinkPasses, LinkTold}
+use Rattle.r2_link.specs.Moments.{Tells as TellsMoments}
 use Rattle.r2_link.specs.Streams.{AppendsFront}
 use Rattle.r2_link.proofs.Streams.{Appends-nil}
 use Rattle.r2_client.specs.declared.call_end.CallEnd.{CallEnd}
@@ -18,64 +18,47 @@ use Rattle.r2_client.specs.Session.{Stepped, ended, sent_again, stepped, ticked 
 use Rattle.r2_client.specs.State.{SessionState}
 use Rattle.r2_client.proofs.Outcomes.{branch, outcome}
 use Rattle.cmd_status.specs.declared.status.Status.{Status}
-use Rattle.cmd_status.specs.declared.status.Status.TheVariants.{Done, BadWords, BadScript, Memory, SourceFault, SinkFault, LinkFault, ClockFault, TimedOut, IdsUsed, TurnsSpent}
+use Rattle.cmd_status.specs.declared.status.Status.TheVariants.{Memory, SinkFault, LinkFault, TimedOut}
 use Rattle.cmd_status.specs.Stops.{StopsBySink}
 use Rattle.hc_text.specs.End.{end_text}
 use Rattle.cmd_loop.specs.declared.ticker.Ticker.{Ticker}
 use Rattle.cmd_loop.specs.Events.{elapsed, event_of}
 use Rattle.cmd_loop.specs.Receiving.{StopsReceiving}
 use Rattle.cmd_loop.specs.Round.{due_at, ticked}
-use Rattle.cmd_loop.proofs.Told.{Gains-none, IsKept-refl, Tells-one, kept-Gains}
-use Rattle.cmd_client.specs.Outside.{HearsItems, Outside, Passes, outside}
+use Rattle.cmd_loop.specs.Ends.{Ends}
+use Rattle.cmd_client.specs.Outside.{LinkTalks, Talks}
 use Rattle.cmd_client.specs.Talk.{Hears, IsOpen, MayTake, Step, Talk, Tells, asked_in, course, ends_text, items_of, listed, moments_of, stepped_by, taken, talk, times_out}
 use Rattle.cmd_client.specs.Steps.{StopsStep}
 use Rattle.cmd_client.specs.Stops.{CutsLine, CutsSends, Goes, LosesStep, StopsTalk, Waits, Went}
-use Rattle.cmd_client.proofs.Passing.{hears-none, hears-then}
-
--- what passed in a step
-pub hear-passes : (l m n : Option (List Item)) (a b d : Option (List Datagram)) (k : Option (List ℕ)) (w x : Option (List ℕ)) (item : Item) (sends : List Datagram) (text : List ℕ)
-    → HearsItems l m (item ∷ []) → IsKept m n → IsKept a b → Gains b d sends → Appends w x text
-    → Passes (outside l a k w) (outside n d k x) (item ∷ []) [] sends text
-hear-passes l m n a b d k w x item sends text heard left kept gave wrote = record {
-  heard = hears-then l m n (item ∷ []) [] heard (hears-none m n left);
-  told = IsKept-refl k;
-  gave = kept-Gains a b d sends kept gave;
-  wrote = wrote;
-}
-
-pub tell-passes : (l n : Option (List Item)) (a d : Option (List Datagram)) (k k' : Option (List ℕ)) (w x : Option (List ℕ)) (moment : ℕ) (sends : List Datagram) (text : List ℕ)
-    → Gives k k' moment → IsKept l n → Gains a d sends → Appends w x text
-    → Passes (outside l a k w) (outside n d k' x) [] (moment ∷ []) sends text
-tell-passes l n a d k k' w x moment sends text gives left gave wrote =
-    record { heard = hears-none l n left; told = Tells-one k k' moment gives; gave = gave; wrote = wrote }
+use Rattle.cmd_client.proofs.Passing.{talks-hears, talks-tells}
 
 -- a step by itself: whole, with a prefix of its datagrams, with a prefix of its line, or lost
-pub went-one : (t u : Talk) (a b : Outside) (x : Step) → MayTake t x → u ≡ (taken t x).next
-    → Passes a b (items_of (x ∷ [])) (moments_of (x ∷ [])) (taken t x).sends (ends_text (taken t x).ends) → Went t u a b (x ∷ [])
+pub went-one : (t u : Talk) (a b : Ends) (x : Step) → MayTake t x → u ≡ (taken t x).next
+    → Talks a b (items_of (x ∷ [])) (moments_of (x ∷ [])) (taken t x).sends (ends_text (taken t x).ends) → Went t u a b (x ∷ [])
 unfolding course
 went-one t u a b x may next passed = record {
   took = record {
     in_turn = (may, tt);
-    passed = subst (λ (ds : List Datagram). Passes a b (items_of (x ∷ [])) (moments_of (x ∷ [])) ds (ends_text ((taken t x).ends ++ []))) (sym (append-nil (taken t x).sends))
-        (subst (λ (es : List CallEnd). Passes a b (items_of (x ∷ [])) (moments_of (x ∷ [])) (taken t x).sends (ends_text es)) (sym (append-nil (taken t x).ends)) passed);
+    passed = subst (λ (ds : List Datagram). Talks a b (items_of (x ∷ [])) (moments_of (x ∷ [])) ds (ends_text ((taken t x).ends ++ []))) (sym (append-nil (taken t x).sends))
+        (subst (λ (es : List CallEnd). Talks a b (items_of (x ∷ [])) (moments_of (x ∷ [])) (taken t x).sends (ends_text es)) (sym (append-nil (taken t x).ends)) passed);
   };
   left = next;
 }
 
-pub cut-one : (room : ℕ) (t : Talk) (a b : Outside) (x : Step) (front rest : List Datagram) → MayTake t x → length (items_of (x ∷ [])) ≤ room
-    → (taken t x).sends ≡ front ++ rest → Passes a b (items_of (x ∷ [])) (moments_of (x ∷ [])) front [] → CutsSends (asked_in (x ∷ [])) room t a b
+pub cut-one : (room : ℕ) (t : Talk) (a b : Ends) (x : Step) (front rest : List Datagram) → MayTake t x → length (items_of (x ∷ [])) ≤ room
+    → (taken t x).sends ≡ front ++ rest → Talks a b (items_of (x ∷ [])) (moments_of (x ∷ [])) front [] → CutsSends (asked_in (x ∷ [])) room t a b
 unfolding course
 cut-one room t a b x front rest may within gives passed =
     record { before = []; last = x; front = front; rest = rest; gives = gives; took = record { in_turn = (may, tt); passed = passed }; asks = refl; within = within }
 
-pub line-one : (room : ℕ) (t : Talk) (a b : Outside) (x : Step) (front rest : List ℕ) → MayTake t x → length (items_of (x ∷ [])) ≤ room
-    → ends_text (taken t x).ends ≡ front ++ rest → Passes a b (items_of (x ∷ [])) (moments_of (x ∷ [])) (taken t x).sends front → CutsLine (asked_in (x ∷ [])) room t a b
+pub line-one : (room : ℕ) (t : Talk) (a b : Ends) (x : Step) (front rest : List ℕ) → MayTake t x → length (items_of (x ∷ [])) ≤ room
+    → ends_text (taken t x).ends ≡ front ++ rest → Talks a b (items_of (x ∷ [])) (moments_of (x ∷ [])) (taken t x).sends front → CutsLine (asked_in (x ∷ [])) room t a b
 unfolding course
 line-one room t a b x front rest may within gives passed =
     record { before = []; last = x; front = front; rest = rest; gives = gives; took = record { in_turn = (may, tt); passed = passed }; asks = refl; within = within }
 
-pub lost-one : (room : ℕ) (t : Talk) (a b : Outside) (x : Step) → MayTake t x → length (items_of (x ∷ [])) ≤ room
-    → Passes a b (items_of (x ∷ [])) (moments_of (x ∷ [])) [] [] → LosesStep (asked_in (x ∷ [])) room t a b
+pub lost-one : (room : ℕ) (t : Talk) (a b : Ends) (x : Step) → MayTake t x → length (items_of (x ∷ [])) ≤ room
+    → Talks a b (items_of (x ∷ [])) (moments_of (x ∷ [])) [] [] → LosesStep (asked_in (x ∷ [])) room t a b
 unfolding course
 lost-one room t a b x may within passed = record { before = []; last = x; took = record { in_turn = (may, tt); passed = passed }; asks = refl; within = within }
 
@@ -89,20 +72,20 @@ never-times-out s (ADatagram d) = outcome (λ r. times_out r.step.end ≡ false)
 never-times-out s NoDatagram = refl
 
 -- an item was heard
-pub went-hears : (s s' : SessionState) (k : Ticker) (item : Item) (end : Option CallEnd) (a b : Outside) → IsOpen s.open_call
+pub went-hears : (s s' : SessionState) (k : Ticker) (item : Item) (end : Option CallEnd) (a b : Ends) → IsOpen s.open_call
     → s' ≡ (stepped s (event_of item)).session → end ≡ (stepped s (event_of item)).step.end
-    → Passes a b (item ∷ []) [] (stepped s (event_of item)).step.sends (ends_text (listed end))
+    → Talks a b (item ∷ []) [] (stepped s (event_of item)).step.sends (ends_text (listed end))
     → Went (talk s k false) (talk s' k true) a b (Hears item ∷ [])
 unfolding items_of moments_of
 went-hears s s' k item end a b opened session ended passed =
     went-one (talk s k false) (talk s' k true) a b (Hears item) (refl, refl, opened)
     (ap (λ (x : SessionState). talk x k true) session ∙ ap (λ (b : Bool). record { session = (stepped s (event_of item)).session; ticker = k; behind = true; over = b }) (sym (never-times-out s item)))
-    (subst (λ (e : Option CallEnd). Passes a b (item ∷ []) [] (stepped s (event_of item)).step.sends (ends_text (listed e))) ended passed)
+    (subst (λ (e : Option CallEnd). Talks a b (item ∷ []) [] (stepped s (event_of item)).step.sends (ends_text (listed e))) ended passed)
 
 -- the clock gave a moment
-pub went-tells : (s s' : SessionState) (k u : Ticker) (moment : ℕ) (end : Option CallEnd) (r : Stepped) (a b : Outside)
+pub went-tells : (s s' : SessionState) (k u : Ticker) (moment : ℕ) (end : Option CallEnd) (r : Stepped) (a b : Ends)
     → u ≡ ticked k moment → stepped_by s (due_at k moment) ≡ r → s' ≡ r.session → end ≡ r.step.end
-    → Passes a b [] (moment ∷ []) r.step.sends (ends_text (listed end))
+    → Talks a b [] (moment ∷ []) r.step.sends (ends_text (listed end))
     → Went (talk s k true) (record { session = s'; ticker = u; behind = false; over = times_out end }) a b (Tells moment ∷ [])
 unfolding items_of moments_of
 went-tells s s' k u moment end r a b ticker step session ended passed =
@@ -111,101 +94,95 @@ went-tells s s' k u moment end r a b ticker step session ended passed =
     ∙ ap (λ (x : Ticker). record { session = r.session; ticker = x; behind = false; over = times_out end }) ticker
     ∙ ap (λ (e : Option CallEnd). record { session = r.session; ticker = ticked k moment; behind = false; over = times_out e }) ended
     ∙ ap (λ (x : Stepped). record { session = x.session; ticker = ticked k moment; behind = false; over = times_out x.step.end }) (sym step))
-    (subst (λ (x : Stepped). Passes a b [] (moment ∷ []) x.step.sends (ends_text (listed x.step.end))) (sym step)
-    (subst (λ (e : Option CallEnd). Passes a b [] (moment ∷ []) r.step.sends (ends_text (listed e))) ended passed))
+    (subst (λ (x : Stepped). Talks a b [] (moment ∷ []) x.step.sends (ends_text (listed x.step.end))) (sym step)
+    (subst (λ (e : Option CallEnd). Talks a b [] (moment ∷ []) r.step.sends (ends_text (listed e))) ended passed))
 
 -- nothing was received
-pub stops-receiving : (t : Talk) (a b : Outside) (room old new : ℕ) (status : Status) → Waits t → 0 < room → Passes a b [] [] [] [] → StopsReceiving old new status → StopsTalk [] room t a b status
+pub stops-receiving : (t : Talk) (a b : Ends) (room : ℕ) (status : Status) → Waits t → 0 < room → Talks a b [] [] [] [] → StopsReceiving status → StopsTalk [] room t a b status
 unfolding course items_of moments_of asked_in
-stops-receiving t a b room old new LinkFault waits some passed stops =
+stops-receiving t a b room LinkFault waits some passed stops =
     inl (record { behind = t; steps = []; went = record { took = record { in_turn = tt; passed = passed }; left = refl }; asks = refl; then = (waits, some) })
-stops-receiving t a b room old new Memory waits some passed stops =
+stops-receiving t a b room Memory waits some passed stops =
     inl (record { behind = t; steps = []; went = record { took = record { in_turn = tt; passed = passed }; left = refl }; asks = refl; then = omega arith })
-stops-receiving t a b room old new _ waits some passed stops = absurd stops
+stops-receiving t a b room _ waits some passed stops = absurd stops
 
 -- nothing passed, and the clock had no moment
-pub misses : (t : Talk) (a b : Outside) (room : ℕ) → t.over ≡ false → t.behind ≡ true → Passes a b [] [] [] [] → Goes [] t a b (λ u steps. (u.over ≡ false) × (u.behind ≡ true) × (length (items_of steps) ≤ room))
+pub misses : (t : Talk) (a b : Ends) (room : ℕ) → t.over ≡ false → t.behind ≡ true → Talks a b [] [] [] [] → Goes [] t a b (λ u steps. (u.over ≡ false) × (u.behind ≡ true) × (length (items_of steps) ≤ room))
 unfolding course items_of moments_of asked_in
 misses t a b room over behind passed =
     record { behind = t; steps = []; went = record { took = record { in_turn = tt; passed = passed }; left = refl }; asks = refl; then = (over, behind, omega arith) }
 
 -- the step of an item wasn't made whole
-pub stops-hearing : (s : SessionState) (k : Ticker) (item : Item) (l m n : Option (List Item)) (a b d : Option (List Datagram)) (clock w : Option (List ℕ)) (room : ℕ) (status : Status)
-    → IsOpen s.open_call → 0 < room → HearsItems l m (item ∷ []) → IsKept m n → IsKept a b → StopsStep (stepped s (event_of item)) b d status
-    → StopsTalk [] room (talk s k false) (outside l a clock w) (outside n d clock w) status
+pub stops-hearing : (o : Ends) (s : SessionState) (k : Ticker) (item : Item) (p q r : LinkTold) (w : Option (List ℕ)) (room : ℕ) (status : Status)
+    → IsOpen s.open_call → 0 < room → LinkTalks p q (item ∷ []) [] → StopsStep (stepped s (event_of item)) q r status
+    → StopsTalk [] room (talk s k false) (record o { link = p; written = w }) (record o { link = r; written = w }) status
 unfolding items_of moments_of asked_in
-stops-hearing s k item l m n a b d clock w room LinkFault opened some heard left kept stops =
-    inr (cut-one room (talk s k false) (outside l a clock w) (outside n d clock w) (Hears item) stops.front stops.rest (refl, refl, opened) some stops.gives
-    (hear-passes l m n a b d clock w w item stops.front [] heard left kept stops.gave (Appends-nil w)))
-stops-hearing s k item l m n a b d clock w room Memory opened some heard left kept stops =
-    inr (inr (lost-one room (talk s k false) (outside l a clock w) (outside n d clock w) (Hears item) (refl, refl, opened) some
-    (hear-passes l m n a b d clock w w item [] [] heard left kept (Gains-none b d stops) (Appends-nil w))))
-stops-hearing s k item l m n a b d clock w room _ opened some heard left kept stops = absurd stops
+stops-hearing o s k item p q r w room LinkFault opened some heard stops =
+    inr (cut-one room (talk s k false) (record o { link = p; written = w }) (record o { link = r; written = w }) (Hears item) stops.sent stops.unsent (refl, refl, opened) some stops.split
+    (talks-hears o p q r w w item stops.sent [] heard stops.passed (Appends-nil w)))
+stops-hearing o s k item p q r w room Memory opened some heard stops =
+    inr (inr (lost-one room (talk s k false) (record o { link = p; written = w }) (record o { link = r; written = w }) (Hears item) (refl, refl, opened) some
+    (talks-hears o p q r w w item [] [] heard stops (Appends-nil w))))
+stops-hearing o s k item p q r w room _ opened some heard stops = absurd stops
 
 -- printing stopped
-by-sink : (room : ℕ) (t : Talk) (a b : Outside) (old new : ℕ) (status : Status) → StopsBySink old new status → CutsLine [] room t a b → StopsTalk [] room t a b status
+by-sink : (room : ℕ) (t : Talk) (a b : Ends) (old new : ℕ) (status : Status) → StopsBySink old new status → CutsLine [] room t a b → StopsTalk [] room t a b status
 by-sink room t a b old new SinkFault stops cut = cut
 by-sink room t a b old new Memory stops cut = inr (inl cut)
-by-sink room t a b old new Done stops cut = absurd stops
-by-sink room t a b old new BadWords stops cut = absurd stops
-by-sink room t a b old new (BadScript line) stops cut = absurd stops
-by-sink room t a b old new SourceFault stops cut = absurd stops
-by-sink room t a b old new LinkFault stops cut = absurd stops
-by-sink room t a b old new ClockFault stops cut = absurd stops
-by-sink room t a b old new TimedOut stops cut = absurd stops
-by-sink room t a b old new IdsUsed stops cut = absurd stops
-by-sink room t a b old new TurnsSpent stops cut = absurd stops
+by-sink room t a b old new _ stops cut = absurd stops
 
 -- the line of a call that an item ended wasn't printed whole
-pub stops-line-hears : (s : SessionState) (k : Ticker) (item : Item) (end : CallEnd) (l m n : Option (List Item)) (a b d : Option (List Datagram)) (clock w x : Option (List ℕ)) (room old new : ℕ) (status : Status)
-    → IsOpen s.open_call → 0 < room → HearsItems l m (item ∷ []) → IsKept m n → IsKept a b → Gains b d (stepped s (event_of item)).step.sends
+pub stops-line-hears : (o : Ends) (s : SessionState) (k : Ticker) (item : Item) (end : CallEnd) (p q r : LinkTold) (w x : Option (List ℕ)) (room old new : ℕ) (status : Status)
+    → IsOpen s.open_call → 0 < room → LinkTalks p q (item ∷ []) [] → LinkPasses q r [] (stepped s (event_of item)).step.sends
     → Some end ≡ (stepped s (event_of item)).step.end → AppendsFront w x (end_text end) → StopsBySink old new status
-    → StopsTalk [] room (talk s k false) (outside l a clock w) (outside n d clock x) status
+    → StopsTalk [] room (talk s k false) (record o { link = p; written = w }) (record o { link = r; written = x }) status
 unfolding items_of moments_of asked_in
-stops-line-hears s k item end l m n a b d clock w x room old new status opened some heard left kept gave ended front stops =
-    by-sink room (talk s k false) (outside l a clock w) (outside n d clock x) old new status stops
-    (line-one room (talk s k false) (outside l a clock w) (outside n d clock x) (Hears item) front.front front.rest (refl, refl, opened) some
+stops-line-hears o s k item end p q r w x room old new status opened some heard sent ended front stops =
+    by-sink room (talk s k false) (record o { link = p; written = w }) (record o { link = r; written = x }) old new status stops
+    (line-one room (talk s k false) (record o { link = p; written = w }) (record o { link = r; written = x }) (Hears item) front.front front.rest (refl, refl, opened) some
     (ap (λ (e : Option CallEnd). ends_text (listed e)) (sym ended) ∙ ended-text end ∙ front.split)
-    (hear-passes l m n a b d clock w x item (stepped s (event_of item)).step.sends front.front heard left kept gave front.gave))
+    (talks-hears o p q r w x item (stepped s (event_of item)).step.sends front.front heard sent front.gave))
 
 -- the tick's step wasn't made whole
-pub stops-telling : (s : SessionState) (k : Ticker) (moment : ℕ) (l n : Option (List Item)) (a d : Option (List Datagram)) (c e w : Option (List ℕ)) (room : ℕ) (status : Status)
-    → due_at k moment ≡ Tick ∷ [] → Gives c e moment → IsKept l n → StopsStep (stepped s Tick) a d status
-    → StopsTalk [] room (talk s k true) (outside l a c w) (outside n d e w) status
+pub stops-telling : (o : Ends) (s : SessionState) (k : Ticker) (moment : ℕ) (p q : LinkTold) (c e w : Option (List ℕ)) (room : ℕ) (status : Status)
+    → due_at k moment ≡ Tick ∷ [] → TellsMoments c e (moment ∷ []) → StopsStep (stepped s Tick) p q status
+    → StopsTalk [] room (talk s k true) (record o { link = p; clock = c; written = w }) (record o { link = q; clock = e; written = w }) status
 unfolding items_of moments_of asked_in
-stops-telling s k moment l n a d c e w room LinkFault is_due gives left stops =
-    inr (cut-one room (talk s k true) (outside l a c w) (outside n d e w) (Tells moment) stops.front stops.rest (refl, refl) (omega arith)
-    (ap (λ (es : List Event). (stepped_by s es).step.sends) is_due ∙ stops.gives)
-    (tell-passes l n a d c e w w moment stops.front [] gives left stops.gave (Appends-nil w)))
-stops-telling s k moment l n a d c e w room Memory is_due gives left stops =
-    inr (inr (lost-one room (talk s k true) (outside l a c w) (outside n d e w) (Tells moment) (refl, refl) (omega arith)
-    (tell-passes l n a d c e w w moment [] [] gives left (Gains-none a d stops) (Appends-nil w))))
-stops-telling s k moment l n a d c e w room _ is_due gives left stops = absurd stops
+stops-telling o s k moment p q c e w room LinkFault is_due told stops =
+    inr (cut-one room (talk s k true) (record o { link = p; clock = c; written = w }) (record o { link = q; clock = e; written = w }) (Tells moment) stops.sent stops.unsent (refl, refl) (omega arith)
+    (ap (λ (es : List Event). (stepped_by s es).step.sends) is_due ∙ stops.split)
+    (talks-tells o p q c e w w moment stops.sent [] told stops.passed (Appends-nil w)))
+stops-telling o s k moment p q c e w room Memory is_due told stops =
+    inr (inr (lost-one room (talk s k true) (record o { link = p; clock = c; written = w }) (record o { link = q; clock = e; written = w }) (Tells moment) (refl, refl) (omega arith)
+    (talks-tells o p q c e w w moment [] [] told stops (Appends-nil w))))
+stops-telling o s k moment p q c e w room _ is_due told stops = absurd stops
 
 -- the line of a call that timed out wasn't printed whole
-pub stops-line-tells : (s : SessionState) (k : Ticker) (moment : ℕ) (end : CallEnd) (l n : Option (List Item)) (a d : Option (List Datagram)) (c e w x : Option (List ℕ)) (room old new : ℕ) (status : Status)
-    → due_at k moment ≡ Tick ∷ [] → Gives c e moment → IsKept l n → Gains a d (stepped s Tick).step.sends
+pub stops-line-tells : (o : Ends) (s : SessionState) (k : Ticker) (moment : ℕ) (end : CallEnd) (p q : LinkTold) (c e w x : Option (List ℕ)) (room old new : ℕ) (status : Status)
+    → due_at k moment ≡ Tick ∷ [] → TellsMoments c e (moment ∷ []) → LinkPasses p q [] (stepped s Tick).step.sends
     → Some end ≡ (stepped s Tick).step.end → AppendsFront w x (end_text end) → StopsBySink old new status
-    → StopsTalk [] room (talk s k true) (outside l a c w) (outside n d e x) status
+    → StopsTalk [] room (talk s k true) (record o { link = p; clock = c; written = w }) (record o { link = q; clock = e; written = x }) status
 unfolding items_of moments_of asked_in
-stops-line-tells s k moment end l n a d c e w x room old new status is_due gives left gave ended front stops =
-    by-sink room (talk s k true) (outside l a c w) (outside n d e x) old new status stops
-    (line-one room (talk s k true) (outside l a c w) (outside n d e x) (Tells moment) front.front front.rest (refl, refl) (omega arith)
+stops-line-tells o s k moment end p q c e w x room old new status is_due told sent ended front stops =
+    let a : Ends = record o { link = p; clock = c; written = w } in
+    let b : Ends = record o { link = q; clock = e; written = x } in
+    by-sink room (talk s k true) a b old new status stops
+    (line-one room (talk s k true) a b (Tells moment) front.front front.rest (refl, refl) (omega arith)
     (ap (λ (es : List Event). ends_text (listed (stepped_by s es).step.end)) is_due ∙ ap (λ (e : Option CallEnd). ends_text (listed e)) (sym ended) ∙ ended-text end ∙ front.split)
-    (subst (λ (es : List Event). Passes (outside l a c w) (outside n d e x) [] (moment ∷ []) (stepped_by s es).step.sends front.front) (sym is_due)
-    (tell-passes l n a d c e w x moment (stepped s Tick).step.sends front.front gives left gave front.gave)))
+    (subst (λ (es : List Event). Talks a b [] (moment ∷ []) (stepped_by s es).step.sends front.front) (sym is_due)
+    (talks-tells o p q c e w x moment (stepped s Tick).step.sends front.front told sent front.gave)))
 
 -- the call timed out, and its line was printed
-pub times-out : (s s' : SessionState) (k u : Ticker) (moment : ℕ) (end : CallEnd) (l n : Option (List Item)) (a d : Option (List Datagram)) (c e w x : Option (List ℕ)) (room : ℕ)
-    → due_at k moment ≡ Tick ∷ [] → u ≡ ticked k moment → Gives c e moment → IsKept l n → Gains a d (stepped s Tick).step.sends
+pub times-out : (o : Ends) (s s' : SessionState) (k u : Ticker) (moment : ℕ) (end : CallEnd) (p q : LinkTold) (c e w x : Option (List ℕ)) (room : ℕ)
+    → due_at k moment ≡ Tick ∷ [] → u ≡ ticked k moment → TellsMoments c e (moment ∷ []) → LinkPasses p q [] (stepped s Tick).step.sends
     → s' ≡ (stepped s Tick).session → Some end ≡ (stepped s Tick).step.end → end ≡ EndTimedOut → Appends w x (end_text end)
-    → StopsTalk [] room (talk s k true) (outside l a c w) (outside n d e x) TimedOut
+    → StopsTalk [] room (talk s k true) (record o { link = p; clock = c; written = w }) (record o { link = q; clock = e; written = x }) TimedOut
 unfolding items_of moments_of course asked_in
-times-out s s' k u moment end l n a d c e w x room is_due ticker gives left gave session ended is_timeout wrote = record {
+times-out o s s' k u moment end p q c e w x room is_due ticker told sent session ended is_timeout wrote = record {
   behind = record { session = s'; ticker = u; behind = false; over = times_out (Some end) };
   steps = Tells moment ∷ [];
-  went = went-tells s s' k u moment (Some end) (stepped s Tick) (outside l a c w) (outside n d e x) ticker (ap (λ (es : List Event). stepped_by s es) is_due) session ended
-      (tell-passes l n a d c e w x moment (stepped s Tick).step.sends (ends_text (listed (Some end))) gives left gave (subst (λ (t : List ℕ). Appends w x t) (sym (ended-text end)) wrote));
+  went = went-tells s s' k u moment (Some end) (stepped s Tick) (record o { link = p; clock = c; written = w }) (record o { link = q; clock = e; written = x }) ticker (ap (λ (es : List Event). stepped_by s es) is_due) session ended
+      (talks-tells o p q c e w x moment (stepped s Tick).step.sends (ends_text (listed (Some end))) told sent (subst (λ (t : List ℕ). Appends w x t) (sym (ended-text end)) wrote));
   asks = refl;
   then = (
     record {

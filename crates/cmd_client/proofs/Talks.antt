@@ -4,18 +4,18 @@ use Rattle.std.specs.Prelude.{IfErr, OnOk}
 use Rattle.r2_link.specs.declared.lane.Item.{Item}
 use Rattle.cmd_status.specs.declared.status.Status.{Status}
 use Rattle.cmd_status.specs.declared.status.Status.TheVariants.{Memory, SinkFault, LinkFault, ClockFault, TimedOut, IdsUsed, TurnsSpent}
-use Rattle.cmd_client.specs.Outside.{Outside}
+use Rattle.cmd_loop.specs.Ends.{Ends}
 use Rattle.cmd_client.specs.Talk.{Asked, Asks, Hears, IsOpen, Step, Talk, Tells, asked_in, items_of}
 use Rattle.cmd_client.specs.Stops.{Completes, StopsCall, StopsTalk, Went}
 use Rattle.cmd_client.proofs.Courses.{asks-then, few-then, stops-then, went-none, went-then}
 
-pub converse-init : (t : Talk) (o : Outside) (room : ℕ)
+pub converse-init : (t : Talk) (o : Ends) (room : ℕ)
     → (steps : List Step) × Went t t o o steps × (asked_in steps ≡ []) × (length (items_of steps) + room ≡ room)
 unfolding asked_in items_of
 converse-init t o room = ([], went-none t o, refl, omega arith)
 
 -- after the item of one more round
-pub heard-one : (t u v : Talk) (a b c : Outside) (steps : List Step) (item : Item) (room left : ℕ)
+pub heard-one : (t u v : Talk) (a b c : Ends) (steps : List Step) (item : Item) (room left : ℕ)
     → Went t u a b steps → asked_in steps ≡ [] → length (items_of steps) + left ≡ room → 0 < left → Went u v b c (Hears item ∷ [])
     → Went t v a c (steps ++ Hears item ∷ []) × (asked_in (steps ++ Hears item ∷ []) ≡ []) × (length (items_of (steps ++ Hears item ∷ [])) + (left - 1) ≡ room)
 unfolding asked_in items_of
@@ -23,7 +23,7 @@ heard-one t u v a b c steps item room left went asks counted some heard =
     (went-then t u v a b c steps (Hears item ∷ []) went heard, asks-then steps (Hears item ∷ []) [] [] asks refl, omega (arith, few-then steps (Hears item ∷ []), counted, some))
 
 -- after one more round
-pub round-of : (t u v w : Talk) (a b c d : Outside) (steps : List Step) (item : Item) (moment room left : ℕ)
+pub round-of : (t u v w : Talk) (a b c d : Ends) (steps : List Step) (item : Item) (moment room left : ℕ)
     → Went t u a b steps → asked_in steps ≡ [] → length (items_of steps) + left ≡ room → 0 < left → Went u v b c (Hears item ∷ []) → Went v w c d (Tells moment ∷ [])
     → Went t w a d ((steps ++ Hears item ∷ []) ++ Tells moment ∷ []) × (asked_in ((steps ++ Hears item ∷ []) ++ Tells moment ∷ []) ≡ [])
     × (length (items_of ((steps ++ Hears item ∷ []) ++ Tells moment ∷ [])) + (left - 1) ≡ room)
@@ -36,16 +36,12 @@ round-of t u v w a b c d steps item moment room left went asks counted some hear
     )
 
 -- all that may be received was received
-pub spent : (t u : Talk) (a b : Outside) (steps : List Step) (room : ℕ) → Went t u a b steps → asked_in steps ≡ [] → length (items_of steps) ≡ room
+pub spent : (t u : Talk) (a b : Ends) (steps : List Step) (room : ℕ) → Went t u a b steps → asked_in steps ≡ [] → length (items_of steps) ≡ room
     → u.over ≡ false → u.behind ≡ false → IsOpen u.session.open_call → StopsTalk [] room t a b TurnsSpent
 spent t u a b steps room went asks all over behind opened = record { behind = u; steps = steps; went = went; asks = asks; then = ((over, behind, opened), all) }
 
--- a fault that isn't the clock's
-pub no-clock-fault : (status : Status) → status ≡ ClockFault → (status ≡ ClockFault → ⊥) → ⊥
-no-clock-fault status is never = never is
-
 -- a call that began, and came to its end
-pub completes : (t u v : Talk) (a b c : Outside) (call : Asked) (room left : ℕ) → Went t u a b (Asks call.policy call.body ∷ []) → Completes [] room left u v b c
+pub completes : (t u v : Talk) (a b c : Ends) (call : Asked) (room left : ℕ) → Went t u a b (Asks call.policy call.body ∷ []) → Completes [] room left u v b c
     → Completes (call ∷ []) room left t v a c
 unfolding asked_in items_of
 completes t u v a b c call room left begun rest = record {
@@ -57,14 +53,14 @@ completes t u v a b c call room left begun rest = record {
 }
 
 -- a call that began, and stopped
-pub call-stops : (t u : Talk) (a b c : Outside) (call : Asked) (room : ℕ) (status : Status) → Went t u a b (Asks call.policy call.body ∷ []) → StopsTalk [] room u b c status
+pub call-stops : (t u : Talk) (a b c : Ends) (call : Asked) (room : ℕ) (status : Status) → Went t u a b (Asks call.policy call.body ∷ []) → StopsTalk [] room u b c status
     → StopsTalk (call ∷ []) room t a c status
 unfolding asked_in items_of
 call-stops t u a b c call room status begun stops =
     stops-then t u a b c (Asks call.policy call.body ∷ []) (call ∷ []) [] room room status begun refl (omega arith) stops
 
 -- what stops a talk stops its call
-pub talk-stops : (call : Asked) (room : ℕ) (t : Talk) (a b : Outside) (status : Status) → StopsTalk (call ∷ []) room t a b status → StopsCall call room t a b status
+pub talk-stops : (call : Asked) (room : ℕ) (t : Talk) (a b : Ends) (status : Status) → StopsTalk (call ∷ []) room t a b status → StopsCall call room t a b status
 talk-stops call room t a b Memory stops = inr stops
 talk-stops call room t a b IdsUsed stops = absurd stops
 talk-stops call room t a b SinkFault stops = stops

@@ -5,4 +5,3 @@ pub mod Steps
 pub mod Script
 pub mod Lines
 pub mod Calls
-pub mod Reading

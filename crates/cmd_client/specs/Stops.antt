@@ -1,7 +1,8 @@
 -- How far the last of some steps came to be sent and printed.
 use Rattle.std.specs.Prelude.{◌≡◌, ◌⊎◌, ◌<◌, ◌≤◌, ◌+◌, ℕ, true, false, List, [], ◌∷◌, ◌++◌, length, Some, None}
 use Rattle.r2_base.specs.declared.datagram.Datagram.{Datagram}
-use Rattle.cmd_client.specs.Outside.{Outside, Passes}
+use Rattle.cmd_loop.specs.Ends.{Ends}
+use Rattle.cmd_client.specs.Outside.{Talks}
 use Rattle.r2_client.specs.declared.begin_fault.BeginFault.TheVariants.{IdsUsed}
 use Rattle.r2_client.specs.Session.{refusal}
 use Rattle.r2_client.specs.declared.call_end.CallEnd.TheVariants.{TimedOut}
@@ -10,17 +11,17 @@ use Rattle.cmd_status.specs.declared.status.Status.TheVariants.{Memory, SinkFaul
 use Rattle.cmd_client.specs.Talk.{AreInTurn, Asked, IsOpen, Step, Tells, Talk, asked_in, course, ends_text, items_of, moments_of, taken}
 
 -- these steps were taken, these datagrams were sent and this was written
-pub record Took (t : Talk) (old new : Outside) (steps : List Step) (sends : List Datagram) (text : List ℕ) : Type 0 where
+pub record Took (t : Talk) (old new : Ends) (steps : List Step) (sends : List Datagram) (text : List ℕ) : Type 0 where
   pub in_turn : AreInTurn t steps
-  pub passed : Passes old new (items_of steps) (moments_of steps) sends text
+  pub passed : Talks old new (items_of steps) (moments_of steps) sends text
 
 -- these steps were taken, and all that comes of them was sent and printed
-pub record Went (t u : Talk) (old new : Outside) (steps : List Step) : Type 0 where
+pub record Went (t u : Talk) (old new : Ends) (steps : List Step) : Type 0 where
   pub took : Took t old new steps (course t steps).sends (ends_text (course t steps).ends)
   pub left : u ≡ (course t steps).next
 
 -- of the last step a prefix of the datagrams was sent
-pub record CutsSends (asked : List Asked) (room : ℕ) (t : Talk) (old new : Outside) : Type 0 where
+pub record CutsSends (asked : List Asked) (room : ℕ) (t : Talk) (old new : Ends) : Type 0 where
   pub before : List Step
   pub last : Step
   pub front : List Datagram
@@ -31,7 +32,7 @@ pub record CutsSends (asked : List Asked) (room : ℕ) (t : Talk) (old new : Out
   pub within : length (items_of (before ++ last ∷ [])) ≤ room
 
 -- of the last step all was sent, and a prefix of the line was printed
-pub record CutsLine (asked : List Asked) (room : ℕ) (t : Talk) (old new : Outside) : Type 0 where
+pub record CutsLine (asked : List Asked) (room : ℕ) (t : Talk) (old new : Ends) : Type 0 where
   pub before : List Step
   pub last : Step
   pub front : List ℕ
@@ -42,7 +43,7 @@ pub record CutsLine (asked : List Asked) (room : ℕ) (t : Talk) (old new : Outs
   pub within : length (items_of (before ++ last ∷ [])) ≤ room
 
 -- nothing of the last step was sent or printed
-pub record LosesStep (asked : List Asked) (room : ℕ) (t : Talk) (old new : Outside) : Type 0 where
+pub record LosesStep (asked : List Asked) (room : ℕ) (t : Talk) (old new : Ends) : Type 0 where
   pub before : List Step
   pub last : Step
   pub took : Took t old new (before ++ last ∷ []) (course t before).sends (ends_text (course t before).ends)
@@ -50,7 +51,7 @@ pub record LosesStep (asked : List Asked) (room : ℕ) (t : Talk) (old new : Out
   pub within : length (items_of (before ++ last ∷ [])) ≤ room
 
 -- some steps were taken whole, and the talk is as these left it
-pub record Goes (asked : List Asked) (t : Talk) (old new : Outside) (Then : Talk → List Step → Type 0) : Type 0 where
+pub record Goes (asked : List Asked) (t : Talk) (old new : Ends) (Then : Talk → List Step → Type 0) : Type 0 where
   pub behind : Talk
   pub steps : List Step
   pub went : Went t behind old new steps
@@ -69,7 +70,7 @@ pub record TimesOut (t : Talk) (steps : List Step) : Type 0 where
   pub end : (taken (course t before).next (Tells moment)).ends ≡ TimedOut ∷ []
 
 -- why a call didn't come to its end, where so many items may be received; these calls were asked, the last of them if at all in part
-abbrev pub StopsTalk : List Asked → ℕ → Talk → Outside → Outside → Status → Type 0
+abbrev pub StopsTalk : List Asked → ℕ → Talk → Ends → Ends → Status → Type 0
 StopsTalk asked room t old new TurnsSpent = Goes asked t old new (λ u steps. Waits u × (length (items_of steps) ≡ room))
 StopsTalk asked room t old new ClockFault = Goes asked t old new (λ u steps. (u.over ≡ false) × (u.behind ≡ true) × (length (items_of steps) ≤ room))
 StopsTalk asked room t old new LinkFault =
@@ -81,13 +82,13 @@ StopsTalk asked room t old new Memory =
 StopsTalk asked room t old new _ = ⊥
 
 -- why a call wasn't made to its end: besides, each request id may have been used, or memory may have run out before it was asked
-abbrev pub StopsCall : Asked → ℕ → Talk → Outside → Outside → Status → Type 0
-StopsCall call room t old new IdsUsedStatus = (refusal t.session call.body ≡ Some IdsUsed) × Passes old new [] [] [] []
-StopsCall call room t old new Memory = StopsTalk [] room t old new Memory ⊎ StopsTalk (call ∷ []) room t old new Memory
+abbrev pub StopsCall : Asked → ℕ → Talk → Ends → Ends → Status → Type 0
+StopsCall call room t old new IdsUsedStatus = (refusal t.session call.body ≡ Some IdsUsed) × Talks old new [] [] [] []
+StopsCall call room t old new Memory = Talks old new [] [] [] [] ⊎ StopsTalk (call ∷ []) room t old new Memory
 StopsCall call room t old new status = StopsTalk (call ∷ []) room t old new status
 
 -- these calls were made to their ends, in order, and so many items may still be received
-pub record Completes (asked : List Asked) (room left : ℕ) (t u : Talk) (old new : Outside) : Type 0 where
+pub record Completes (asked : List Asked) (room left : ℕ) (t u : Talk) (old new : Ends) : Type 0 where
   pub steps : List Step
   pub went : Went t u old new steps
   pub asks : asked_in steps ≡ asked

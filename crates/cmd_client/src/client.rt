@@ -1,34 +1,20 @@
 ghost use Rattle.std.specs.Prelude.{◌≡◌, ◌≤◌, ℕ, List, Some, None, length, false};
-ghost use Rattle.r2_link.specs.Faults.{Rose};
-ghost use Rattle.r2_link.specs.Told.{IsKept};
-ghost use Rattle.cmd_status.specs.declared.status.Status.TheVariants.{SourceFault, SinkFault, LinkFault, ClockFault};
+ghost use Rattle.r2_link.specs.Faults.{NoneFalls, Rose, calm};
+ghost use Rattle.cmd_loop.specs.Ends.{Ends};
+ghost use Rattle.cmd_status.specs.Causes.{IsCaused};
 ghost use Rattle.cmd_client.specs.Calls.{Calls, IsCalled, RunsLines};
-ghost use Rattle.cmd_client.specs.Outside.{outside};
-ghost use Rattle.cmd_client.specs.Reading.{status_of};
 ghost use Rattle.cmd_client.specs.Script.{IsScript};
 ghost use Rattle.cmd_client.specs.Talk.{talk};
 
 use crate::Calling;
 use crate::line_run::run_line;
-use cmd_lines::{LineFault, LineReader};
+use cmd_lines::{LINE_LIMIT, LineReader};
 use cmd_loop::{Pace, Ticker};
 use cmd_status::Status;
 use hc_text::Policy;
 use r2_client::Session;
 use r2_link::{Clock, Link, Sink, Source};
 use std::alloc::Global;
-
-/// How a run ends where the line with this number can't be had.
-fn status_of(fault: LineFault, number: u64) -> Status
-    ensures { result ≡ status_of fault number }
-{
-    match fault {
-        LineFault::Source => Status::SourceFault,
-        LineFault::Memory => Status::Memory,
-        LineFault::TooLong => Status::BadScript { line: number },
-        LineFault::Limit => Status::TurnsSpent,
-    }
-}
 
 /// Makes the calls of a script, line by line.
 fn run_lines<S: Source, K: Sink, L: Link, C: Clock>(
@@ -46,25 +32,17 @@ fn run_lines<S: Source, K: Sink, L: Link, C: Clock>(
     requires fresh { session.old.next ≡ 0 }
     requires tick { 1 ≤ ticker.old.tick_ms }
 
-    ensures ran { RunsLines policy room.old (S.left source.old) (S.left source.new) (talk session.old ticker.old false)
-        (outside (L.left link.old) (L.sent link.old) (C.left clock.old) (K.written sink.old)) (outside (L.left link.new) (L.sent link.new) (C.left clock.new) (K.written sink.new)) result }
-
-    ensures lanes { IsKept (L.lanes link.old) (L.lanes link.new) }
-    ensures source_steady { S.faults source.old ≤ S.faults source.new }
-    ensures link_steady { L.faults link.old ≤ L.faults link.new }
-    ensures sink_steady { K.faults sink.old ≤ K.faults sink.new }
-    ensures clock_steady { C.faults clock.old ≤ C.faults clock.new }
-    ensures source_fault { result ≡ SourceFault → Rose (S.faults source.old) (S.faults source.new) }
-    ensures link_fault { result ≡ LinkFault → Rose (L.faults link.old) (L.faults link.new) }
-    ensures sink_fault { result ≡ SinkFault → Rose (K.faults sink.old) (K.faults sink.new) }
-    ensures clock_fault { result ≡ ClockFault → Rose (C.faults clock.old) (C.faults clock.new) }
+    ensures ran { (o : Ends) → RunsLines policy room.old (S.left source.old) (S.left source.new) (talk session.old ticker.old false)
+        (record o { written = K.written sink.old; link = L.told link.old; clock = C.left clock.old }) (record o { written = K.written sink.new; link = L.told link.new; clock = C.left clock.new }) result }
+    ensures caused { IsCaused (record calm { source = S.faults source.old; sink = K.faults sink.old; link = L.faults link.old; clock = C.faults clock.old }) (record calm { source = S.faults source.new; sink = K.faults sink.new; link = L.faults link.new; clock = C.faults clock.new }) result }
+    ensures steady { NoneFalls (record calm { source = S.faults source.old; sink = K.faults sink.old; link = L.faults link.old; clock = C.faults clock.old }) (record calm { source = S.faults source.new; sink = K.faults sink.new; link = L.faults link.new; clock = C.faults clock.new }) }
 {
-    let mut reader = LineReader::new(alloc);
+    let mut reader = LineReader::new(alloc, LINE_LIMIT);
     'lines: loop {
         let line = match reader.next_line(alloc, source) {
             Ok(Some(line)) => line,
             Ok(None) => return Status::Done,
-            Err(fault) => return status_of(fault, reader.lines() + 1),
+            Err(fault) => return fault.status(reader.lines() + 1),
         };
         let number = reader.lines();
         if let Err(status) = run_line(
@@ -104,23 +82,15 @@ pub fn call_client<S: Source, K: Sink, L: Link, C: Clock>(
     requires tick { 1 ≤ pace.tick_ms }
 
     // What was taken of the script and of the outside, what was sent and printed, and why the run ended.
-    ensures ran { Calls calling pace (S.left source.old) (S.left source.new)
-        (outside (L.left link.old) (L.sent link.old) (C.left clock.old) (K.written sink.old)) (outside (L.left link.new) (L.sent link.new) (C.left clock.new) (K.written sink.new)) result }
+    ensures ran { (o : Ends) → Calls calling pace (record o { source = S.left source.old; written = K.written sink.old; link = L.told link.old; clock = C.left clock.old }) (record o { source = S.left source.new; written = K.written sink.new; link = L.told link.new; clock = C.left clock.new }) result }
 
     // A script in its grammar, where nothing failed, ends as stated, or where memory runs out.
     ensures complete { (script : List ℕ) → S.left source.old ≡ Some script → IsScript script
         → (Rose (S.faults source.old) (S.faults source.new) → ⊥) → (Rose (K.faults sink.old) (K.faults sink.new) → ⊥)
         → (Rose (L.faults link.old) (L.faults link.new) → ⊥) → (Rose (C.faults clock.old) (C.faults clock.new) → ⊥) → IsCalled result }
 
-    ensures lanes { IsKept (L.lanes link.old) (L.lanes link.new) }
-    ensures source_steady { S.faults source.old ≤ S.faults source.new }
-    ensures link_steady { L.faults link.old ≤ L.faults link.new }
-    ensures sink_steady { K.faults sink.old ≤ K.faults sink.new }
-    ensures clock_steady { C.faults clock.old ≤ C.faults clock.new }
-    ensures source_fault { result ≡ SourceFault → Rose (S.faults source.old) (S.faults source.new) }
-    ensures link_fault { result ≡ LinkFault → Rose (L.faults link.old) (L.faults link.new) }
-    ensures sink_fault { result ≡ SinkFault → Rose (K.faults sink.old) (K.faults sink.new) }
-    ensures clock_fault { result ≡ ClockFault → Rose (C.faults clock.old) (C.faults clock.new) }
+    ensures caused { IsCaused (record calm { source = S.faults source.old; sink = K.faults sink.old; link = L.faults link.old; clock = C.faults clock.old }) (record calm { source = S.faults source.new; sink = K.faults sink.new; link = L.faults link.new; clock = C.faults clock.new }) result }
+    ensures steady { NoneFalls (record calm { source = S.faults source.old; sink = K.faults sink.old; link = L.faults link.old; clock = C.faults clock.old }) (record calm { source = S.faults source.new; sink = K.faults sink.new; link = L.faults link.new; clock = C.faults clock.new }) }
 {
     let Ok(start) = clock.now() else {
         return Status::ClockFault;

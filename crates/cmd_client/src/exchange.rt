@@ -1,13 +1,10 @@
-ghost use Rattle.std.specs.Prelude.{◌≡◌, ◌≤◌, ◌<◌, ℕ, List, [], ◌∷◌, Option, Some, None, length, IfErr, OnOk, false};
+ghost use Rattle.std.specs.Prelude.{◌≡◌, ◌≤◌, ℕ, List, [], ◌∷◌, None, length, IfErr, OnOk, false};
 ghost use Rattle.r2_base.specs.Limits.{most_body};
 ghost use Rattle.r2_header.specs.Policy.{replicated_read};
-ghost use Rattle.r2_link.specs.Faults.{Rose};
-ghost use Rattle.r2_link.specs.Told.{IsKept};
-ghost use Rattle.r2_client.specs.Session.{refusal};
-ghost use Rattle.r2_client.specs.declared.begin_fault.BeginFault.TheVariants.{IdsUsed};
+ghost use Rattle.r2_link.specs.Faults.{NoneFalls, calm};
+ghost use Rattle.cmd_loop.specs.Ends.{Ends};
 ghost use Rattle.cmd_loop.specs.declared.ticker.Ticker.{Ticker as TickerSpec};
-ghost use Rattle.cmd_status.specs.declared.status.Status.TheVariants.{LinkFault, SinkFault, ClockFault};
-ghost use Rattle.cmd_client.specs.Outside.{outside};
+ghost use Rattle.cmd_status.specs.Causes.{IsCaused};
 ghost use Rattle.cmd_client.specs.Talk.{Asked, Asks, IsOpen, talk};
 ghost use Rattle.cmd_client.specs.Stops.{Completes, StopsCall, StopsTalk, Went};
 
@@ -29,18 +26,15 @@ fn begin_call<L: Link>(
     requires policy { policy ≤ replicated_read }
     requires short { length body.now ≤ most_body }
 
-    ensures went { OnOk result ((ticker : TickerSpec) (clock written : Option (List ℕ)) → Went (talk session.old ticker false) (talk session.new ticker false)
-        (outside (L.left link.old) (L.sent link.old) clock written) (outside (L.left link.new) (L.sent link.new) clock written) (Asks policy body.now ∷ [])) }
+    ensures went { OnOk result ((ticker : TickerSpec) (o : Ends) → Went (talk session.old ticker false) (talk session.new ticker false)
+        (record o { link = L.told link.old }) (record o { link = L.told link.new }) (Asks policy body.now ∷ [])) }
     ensures opened { OnOk result (IsOpen session.new.open_call) }
 
-    ensures stops { IfErr result (λ status. (ticker : TickerSpec) (clock written : Option (List ℕ)) (room : ℕ) → StopsCall (record { policy = policy; body = body.now }) room (talk session.old ticker false)
-        (outside (L.left link.old) (L.sent link.old) clock written) (outside (L.left link.new) (L.sent link.new) clock written) status) }
+    ensures stops { IfErr result (λ status. (ticker : TickerSpec) (o : Ends) (room : ℕ) → StopsCall (record { policy = policy; body = body.now }) room (talk session.old ticker false)
+        (record o { link = L.told link.old }) (record o { link = L.told link.new }) status) }
 
-    ensures lanes { IsKept (L.lanes link.old) (L.lanes link.new) }
-    ensures steady { L.faults link.old ≤ L.faults link.new }
-    ensures cause { IfErr result (λ status. status ≡ LinkFault → Rose (L.faults link.old) (L.faults link.new)) }
-    ensures no_sink { IfErr result (λ status. status ≡ SinkFault → ⊥) }
-    ensures no_clock { IfErr result (λ status. status ≡ ClockFault → ⊥) }
+    ensures caused { IfErr result (IsCaused (record calm { link = L.faults link.old }) (record calm { link = L.faults link.new })) }
+    ensures steady { NoneFalls (record calm { link = L.faults link.old }) (record calm { link = L.faults link.new }) }
 {
     let sends = match session.begin(policy, body) {
         Ok(sends) => sends,
@@ -68,20 +62,15 @@ fn converse<L: Link, K: Sink, C: Clock>(
     requires opened { IsOpen session.old.open_call }
     requires tick { 1 ≤ ticker.old.tick_ms }
 
-    ensures done { OnOk result (Completes [] room.old room.new (talk session.old ticker.old false) (talk session.new ticker.new false)
-        (outside (L.left link.old) (L.sent link.old) (C.left clock.old) (K.written sink.old)) (outside (L.left link.new) (L.sent link.new) (C.left clock.new) (K.written sink.new))) }
+    ensures done { OnOk result ((o : Ends) → Completes [] room.old room.new (talk session.old ticker.old false) (talk session.new ticker.new false)
+        (record o { written = K.written sink.old; link = L.told link.old; clock = C.left clock.old }) (record o { written = K.written sink.new; link = L.told link.new; clock = C.left clock.new })) }
     ensures tick_ms { OnOk result (ticker.new.tick_ms ≡ ticker.old.tick_ms) }
 
-    ensures stops { IfErr result (StopsTalk [] room.old (talk session.old ticker.old false)
-        (outside (L.left link.old) (L.sent link.old) (C.left clock.old) (K.written sink.old)) (outside (L.left link.new) (L.sent link.new) (C.left clock.new) (K.written sink.new))) }
+    ensures stops { IfErr result (λ status. (o : Ends) → StopsTalk [] room.old (talk session.old ticker.old false)
+        (record o { written = K.written sink.old; link = L.told link.old; clock = C.left clock.old }) (record o { written = K.written sink.new; link = L.told link.new; clock = C.left clock.new }) status) }
 
-    ensures lanes { IsKept (L.lanes link.old) (L.lanes link.new) }
-    ensures link_steady { L.faults link.old ≤ L.faults link.new }
-    ensures sink_steady { K.faults sink.old ≤ K.faults sink.new }
-    ensures clock_steady { C.faults clock.old ≤ C.faults clock.new }
-    ensures link_cause { IfErr result (λ status. status ≡ LinkFault → Rose (L.faults link.old) (L.faults link.new)) }
-    ensures sink_cause { IfErr result (λ status. status ≡ SinkFault → Rose (K.faults sink.old) (K.faults sink.new)) }
-    ensures clock_cause { IfErr result (λ status. status ≡ ClockFault → Rose (C.faults clock.old) (C.faults clock.new)) }
+    ensures caused { IfErr result (IsCaused (record calm { sink = K.faults sink.old; link = L.faults link.old; clock = C.faults clock.old }) (record calm { sink = K.faults sink.new; link = L.faults link.new; clock = C.faults clock.new })) }
+    ensures steady { NoneFalls (record calm { sink = K.faults sink.old; link = L.faults link.old; clock = C.faults clock.old }) (record calm { sink = K.faults sink.new; link = L.faults link.new; clock = C.faults clock.new }) }
 {
     let wait_ms = u64::from(ticker.tick_ms);
     'rounds: while *room > 0 {
@@ -117,20 +106,15 @@ pub(crate) fn make_call<L: Link, K: Sink, C: Clock>(
     requires short { length body.now ≤ most_body }
     requires tick { 1 ≤ ticker.old.tick_ms }
 
-    ensures done { OnOk result (Completes (record { policy = policy; body = body.now } ∷ []) room.old room.new (talk session.old ticker.old false) (talk session.new ticker.new false)
-        (outside (L.left link.old) (L.sent link.old) (C.left clock.old) (K.written sink.old)) (outside (L.left link.new) (L.sent link.new) (C.left clock.new) (K.written sink.new))) }
+    ensures done { OnOk result ((o : Ends) → Completes (record { policy = policy; body = body.now } ∷ []) room.old room.new (talk session.old ticker.old false) (talk session.new ticker.new false)
+        (record o { written = K.written sink.old; link = L.told link.old; clock = C.left clock.old }) (record o { written = K.written sink.new; link = L.told link.new; clock = C.left clock.new })) }
     ensures tick_ms { OnOk result (ticker.new.tick_ms ≡ ticker.old.tick_ms) }
 
-    ensures stops { IfErr result (StopsCall (record { policy = policy; body = body.now }) room.old (talk session.old ticker.old false)
-        (outside (L.left link.old) (L.sent link.old) (C.left clock.old) (K.written sink.old)) (outside (L.left link.new) (L.sent link.new) (C.left clock.new) (K.written sink.new))) }
+    ensures stops { IfErr result (λ status. (o : Ends) → StopsCall (record { policy = policy; body = body.now }) room.old (talk session.old ticker.old false)
+        (record o { written = K.written sink.old; link = L.told link.old; clock = C.left clock.old }) (record o { written = K.written sink.new; link = L.told link.new; clock = C.left clock.new }) status) }
 
-    ensures lanes { IsKept (L.lanes link.old) (L.lanes link.new) }
-    ensures link_steady { L.faults link.old ≤ L.faults link.new }
-    ensures sink_steady { K.faults sink.old ≤ K.faults sink.new }
-    ensures clock_steady { C.faults clock.old ≤ C.faults clock.new }
-    ensures link_cause { IfErr result (λ status. status ≡ LinkFault → Rose (L.faults link.old) (L.faults link.new)) }
-    ensures sink_cause { IfErr result (λ status. status ≡ SinkFault → Rose (K.faults sink.old) (K.faults sink.new)) }
-    ensures clock_cause { IfErr result (λ status. status ≡ ClockFault → Rose (C.faults clock.old) (C.faults clock.new)) }
+    ensures caused { IfErr result (IsCaused (record calm { sink = K.faults sink.old; link = L.faults link.old; clock = C.faults clock.old }) (record calm { sink = K.faults sink.new; link = L.faults link.new; clock = C.faults clock.new })) }
+    ensures steady { NoneFalls (record calm { sink = K.faults sink.old; link = L.faults link.old; clock = C.faults clock.old }) (record calm { sink = K.faults sink.new; link = L.faults link.new; clock = C.faults clock.new }) }
 {
     if let Err(status) = begin_call(session, policy, body, link) {
         return Err(status);

@@ -1,9 +1,9 @@
-ghost use Rattle.std.specs.Prelude.{◌≡◌, ◌≢◌, ◌≤◌, ℕ, List, [], ◌∷◌, None, length, false, IfErr, OnOk};
-ghost use Rattle.r2_link.specs.Faults.{Rose};
-ghost use Rattle.r2_link.specs.Told.{IsKept};
-ghost use Rattle.cmd_status.specs.declared.status.Status.TheVariants.{LinkFault, SinkFault, ClockFault, SourceFault};
+ghost use Rattle.std.specs.Prelude.{◌≡◌, ◌≤◌, ℕ, List, None, length, false, IfErr, OnOk};
+ghost use Rattle.r2_link.specs.Faults.{NoneFalls, calm};
+ghost use Rattle.cmd_lines.specs.Limits.{most_line};
+ghost use Rattle.cmd_loop.specs.Ends.{Ends};
+ghost use Rattle.cmd_status.specs.Causes.{IsCaused};
 ghost use Rattle.cmd_client.specs.Lines.{MakesLine, StopsLine};
-ghost use Rattle.cmd_client.specs.Outside.{outside};
 ghost use Rattle.cmd_client.specs.Talk.{talk};
 
 use crate::exchange::make_call;
@@ -28,23 +28,18 @@ pub(crate) fn run_line<L: Link, K: Sink, C: Clock>(
     sink: &mut K,
 ) -> Result<(), Status>
     requires none { session.old.open_call ≡ None }
-    requires short { length line.now ≤ 8192 }
+    requires short { length line.now ≤ most_line }
     requires tick { 1 ≤ ticker.old.tick_ms }
 
-    ensures made { OnOk result (MakesLine policy line.now room.old room.new (talk session.old ticker.old false) (talk session.new ticker.new false)
-        (outside (L.left link.old) (L.sent link.old) (C.left clock.old) (K.written sink.old)) (outside (L.left link.new) (L.sent link.new) (C.left clock.new) (K.written sink.new))) }
+    ensures made { OnOk result ((o : Ends) → MakesLine policy line.now room.old room.new (talk session.old ticker.old false) (talk session.new ticker.new false)
+        (record o { written = K.written sink.old; link = L.told link.old; clock = C.left clock.old }) (record o { written = K.written sink.new; link = L.told link.new; clock = C.left clock.new })) }
     ensures tick_ms { OnOk result (ticker.new.tick_ms ≡ ticker.old.tick_ms) }
 
-    ensures stops { IfErr result (StopsLine policy line.now number room.old (talk session.old ticker.old false)
-        (outside (L.left link.old) (L.sent link.old) (C.left clock.old) (K.written sink.old)) (outside (L.left link.new) (L.sent link.new) (C.left clock.new) (K.written sink.new))) }
+    ensures stops { IfErr result (λ status. (o : Ends) → StopsLine policy line.now number room.old (talk session.old ticker.old false)
+        (record o { written = K.written sink.old; link = L.told link.old; clock = C.left clock.old }) (record o { written = K.written sink.new; link = L.told link.new; clock = C.left clock.new }) status) }
 
-    ensures lanes { IsKept (L.lanes link.old) (L.lanes link.new) }
-    ensures link_steady { L.faults link.old ≤ L.faults link.new }
-    ensures sink_steady { K.faults sink.old ≤ K.faults sink.new }
-    ensures clock_steady { C.faults clock.old ≤ C.faults clock.new }
-    ensures link_cause { IfErr result (λ status. status ≡ LinkFault → Rose (L.faults link.old) (L.faults link.new)) }
-    ensures sink_cause { IfErr result (λ status. status ≡ SinkFault → Rose (K.faults sink.old) (K.faults sink.new)) }
-    ensures clock_cause { IfErr result (λ status. status ≡ ClockFault → Rose (C.faults clock.old) (C.faults clock.new)) }
+    ensures caused { IfErr result (IsCaused (record calm { sink = K.faults sink.old; link = L.faults link.old; clock = C.faults clock.old }) (record calm { sink = K.faults sink.new; link = L.faults link.new; clock = C.faults clock.new })) }
+    ensures steady { NoneFalls (record calm { sink = K.faults sink.old; link = L.faults link.old; clock = C.faults clock.old }) (record calm { sink = K.faults sink.new; link = L.faults link.new; clock = C.faults clock.new }) }
 {
     if line.is_empty() {
         return Ok(());

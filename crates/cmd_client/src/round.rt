@@ -1,10 +1,9 @@
-ghost use Rattle.std.specs.Prelude.{◌≡◌, ◌≤◌, ◌<◌, ℕ, List, [], ◌∷◌, Option, None, true, false, IfErr, IfOk, OnOk};
-ghost use Rattle.r2_link.specs.Faults.{Rose};
-ghost use Rattle.r2_link.specs.Told.{IsKept};
+ghost use Rattle.std.specs.Prelude.{◌≡◌, ◌≤◌, ◌<◌, ℕ, List, [], ◌∷◌, None, true, false, IfErr, IfOk, OnOk};
+ghost use Rattle.r2_link.specs.Faults.{NoneFalls, calm};
 ghost use Rattle.r2_link.specs.declared.lane.Item.{Item};
+ghost use Rattle.cmd_loop.specs.Ends.{Ends};
 ghost use Rattle.cmd_loop.specs.declared.ticker.Ticker.{Ticker as TickerSpec};
-ghost use Rattle.cmd_status.specs.declared.status.Status.TheVariants.{LinkFault, SinkFault, ClockFault};
-ghost use Rattle.cmd_client.specs.Outside.{outside};
+ghost use Rattle.cmd_status.specs.Causes.{IsCaused};
 ghost use Rattle.cmd_client.specs.Talk.{Hears, IsOpen, Tells, talk};
 ghost use Rattle.cmd_client.specs.Stops.{StopsTalk, Went};
 
@@ -29,20 +28,16 @@ pub(crate) fn hear_item<L: Link, K: Sink>(
 ) -> Result<bool, Status>
     requires { IsOpen session.old.open_call }
 
-    ensures went { IfOk result (λ over. (ticker : TickerSpec) (clock : Option (List ℕ)) → (item : Item) × Went (talk session.old ticker false) (talk session.new ticker true)
-        (outside (L.left link.old) (L.sent link.old) clock (K.written sink.old)) (outside (L.left link.new) (L.sent link.new) clock (K.written sink.new)) (Hears item ∷ [])) }
+    ensures went { IfOk result (λ over. (ticker : TickerSpec) (o : Ends) → (item : Item) × Went (talk session.old ticker false) (talk session.new ticker true)
+        (record o { written = K.written sink.old; link = L.told link.old }) (record o { written = K.written sink.new; link = L.told link.new }) (Hears item ∷ [])) }
     ensures ended { IfOk result (λ over. over ≡ true → session.new.open_call ≡ None) }
     ensures goes_on { IfOk result (λ over. over ≡ false → IsOpen session.new.open_call) }
 
-    ensures stops { IfErr result (λ status. (ticker : TickerSpec) (clock : Option (List ℕ)) (room : ℕ) → 0 < room → StopsTalk [] room (talk session.old ticker false)
-        (outside (L.left link.old) (L.sent link.old) clock (K.written sink.old)) (outside (L.left link.new) (L.sent link.new) clock (K.written sink.new)) status) }
+    ensures stops { IfErr result (λ status. (ticker : TickerSpec) (o : Ends) (room : ℕ) → 0 < room → StopsTalk [] room (talk session.old ticker false)
+        (record o { written = K.written sink.old; link = L.told link.old }) (record o { written = K.written sink.new; link = L.told link.new }) status) }
 
-    ensures lanes { IsKept (L.lanes link.old) (L.lanes link.new) }
-    ensures link_steady { L.faults link.old ≤ L.faults link.new }
-    ensures sink_steady { K.faults sink.old ≤ K.faults sink.new }
-    ensures link_cause { IfErr result (λ status. status ≡ LinkFault → Rose (L.faults link.old) (L.faults link.new)) }
-    ensures sink_cause { IfErr result (λ status. status ≡ SinkFault → Rose (K.faults sink.old) (K.faults sink.new)) }
-    ensures no_clock { IfErr result (λ status. status ≡ ClockFault → ⊥) }
+    ensures caused { IfErr result (IsCaused (record calm { sink = K.faults sink.old; link = L.faults link.old }) (record calm { sink = K.faults sink.new; link = L.faults link.new })) }
+    ensures steady { NoneFalls (record calm { sink = K.faults sink.old; link = L.faults link.old }) (record calm { sink = K.faults sink.new; link = L.faults link.new }) }
 {
     let event = match receive_event(alloc, link, wait_ms) {
         Ok(event) => event,
@@ -72,22 +67,17 @@ pub(crate) fn ask_clock<L: Link, K: Sink, C: Clock>(
 ) -> Result<(), Status>
     requires { 1 ≤ ticker.old.tick_ms }
 
-    ensures went { OnOk result ((moment : ℕ) × Went (talk session.old ticker.old true) (talk session.new ticker.new false)
-        (outside (L.left link.old) (L.sent link.old) (C.left clock.old) (K.written sink.old)) (outside (L.left link.new) (L.sent link.new) (C.left clock.new) (K.written sink.new)) (Tells moment ∷ [])) }
+    ensures went { OnOk result ((o : Ends) → (moment : ℕ) × Went (talk session.old ticker.old true) (talk session.new ticker.new false)
+        (record o { written = K.written sink.old; link = L.told link.old; clock = C.left clock.old }) (record o { written = K.written sink.new; link = L.told link.new; clock = C.left clock.new }) (Tells moment ∷ [])) }
     ensures stays_ended { OnOk result (session.old.open_call ≡ None → session.new.open_call ≡ None) }
     ensures goes_on { OnOk result (IsOpen session.old.open_call → IsOpen session.new.open_call) }
     ensures tick_ms { OnOk result (ticker.new.tick_ms ≡ ticker.old.tick_ms) }
 
-    ensures stops { IfErr result (λ status. (room : ℕ) → StopsTalk [] room (talk session.old ticker.old true)
-        (outside (L.left link.old) (L.sent link.old) (C.left clock.old) (K.written sink.old)) (outside (L.left link.new) (L.sent link.new) (C.left clock.new) (K.written sink.new)) status) }
+    ensures stops { IfErr result (λ status. (o : Ends) (room : ℕ) → StopsTalk [] room (talk session.old ticker.old true)
+        (record o { written = K.written sink.old; link = L.told link.old; clock = C.left clock.old }) (record o { written = K.written sink.new; link = L.told link.new; clock = C.left clock.new }) status) }
 
-    ensures lanes { IsKept (L.lanes link.old) (L.lanes link.new) }
-    ensures link_steady { L.faults link.old ≤ L.faults link.new }
-    ensures sink_steady { K.faults sink.old ≤ K.faults sink.new }
-    ensures clock_steady { C.faults clock.old ≤ C.faults clock.new }
-    ensures link_cause { IfErr result (λ status. status ≡ LinkFault → Rose (L.faults link.old) (L.faults link.new)) }
-    ensures sink_cause { IfErr result (λ status. status ≡ SinkFault → Rose (K.faults sink.old) (K.faults sink.new)) }
-    ensures clock_cause { IfErr result (λ status. status ≡ ClockFault → Rose (C.faults clock.old) (C.faults clock.new)) }
+    ensures caused { IfErr result (IsCaused (record calm { sink = K.faults sink.old; link = L.faults link.old; clock = C.faults clock.old }) (record calm { sink = K.faults sink.new; link = L.faults link.new; clock = C.faults clock.new })) }
+    ensures steady { NoneFalls (record calm { sink = K.faults sink.old; link = L.faults link.old; clock = C.faults clock.old }) (record calm { sink = K.faults sink.new; link = L.faults link.new; clock = C.faults clock.new }) }
 {
     let Ok(moment) = clock.now() else {
         return Err(Status::ClockFault);

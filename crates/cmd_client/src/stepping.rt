@@ -1,8 +1,7 @@
-ghost use Rattle.std.specs.Prelude.{◌≡◌, ◌≤◌, IfErr, IfOk, OnErr, OnOk};
-ghost use Rattle.r2_link.specs.Faults.{Rose};
-ghost use Rattle.r2_link.specs.Told.{IsKept};
+ghost use Rattle.std.specs.Prelude.{◌≡◌, IfErr, IfOk, OnErr, OnOk};
+ghost use Rattle.r2_link.specs.Faults.{NoneFalls, calm};
 ghost use Rattle.r2_client.specs.Session.{stepped};
-ghost use Rattle.cmd_status.specs.declared.status.Status.TheVariants.{LinkFault};
+ghost use Rattle.cmd_status.specs.Causes.{IsCaused};
 ghost use Rattle.cmd_client.specs.Steps.{MakesStep, StopsStep};
 
 use cmd_loop::send_all;
@@ -35,12 +34,10 @@ pub(crate) fn make_step<L: Link>(
     link: &mut L,
     event: &Event,
 ) -> Result<Option<CallEnd>, Status>
-    ensures made { IfOk result (λ end. MakesStep (stepped session.old event.now) session.new end (L.sent link.old) (L.sent link.new)) }
-    ensures stops { IfErr result (StopsStep (stepped session.old event.now) (L.sent link.old) (L.sent link.new)) }
-    ensures left { IsKept (L.left link.old) (L.left link.new) }
-    ensures lanes { IsKept (L.lanes link.old) (L.lanes link.new) }
-    ensures steady { L.faults link.old ≤ L.faults link.new }
-    ensures cause { IfErr result (λ status. status ≡ LinkFault → Rose (L.faults link.old) (L.faults link.new)) }
+    ensures made { IfOk result (λ end. MakesStep (stepped session.old event.now) session.new end (L.told link.old) (L.told link.new)) }
+    ensures stops { IfErr result (StopsStep (stepped session.old event.now) (L.told link.old) (L.told link.new)) }
+    ensures caused { IfErr result (IsCaused (record calm { link = L.faults link.old }) (record calm { link = L.faults link.new })) }
+    ensures steady { NoneFalls (record calm { link = L.faults link.old }) (record calm { link = L.faults link.new }) }
 {
     let Ok(step) = step_session(alloc, session, event) else {
         return Err(Status::Memory);

@@ -10,19 +10,19 @@ abbrev NoEnd : List ℕ → Type 0
 NoEnd bytes = All (λ b. b ≢ 10) bytes
 
 -- so many bytes without an end are a line that is too long
-pub long_of : (bytes : List ℕ) (n : ℕ) → All (λ b. b ≢ 10) (take n bytes) → 8192 < n → 8192 < length bytes → HasLongLine bytes
-long_of bytes n none long more = record {
-  bad = take 8193 bytes;
-  rest = drop 8193 bytes;
-  one_line = subst NoEnd (take-take 8193 n bytes (omega arith)) (All-take (λ b. b ≢ 10) 8193 (take n bytes) none);
-  long = length-take-le 8193 bytes (omega arith);
-  split = sym (take-append-drop 8193 bytes);
+pub long_of : (longest : ℕ) (bytes : List ℕ) (n : ℕ) → All (λ b. b ≢ 10) (take n bytes) → longest < n → longest < length bytes → HasLongLine longest bytes
+long_of longest bytes n none long more = record {
+  bad = take (longest + 1) bytes;
+  rest = drop (longest + 1) bytes;
+  one_line = subst NoEnd (take-take (longest + 1) n bytes (omega arith)) (All-take (λ b. b ≢ 10) (longest + 1) (take n bytes) none);
+  long = length-take-le (longest + 1) bytes (omega arith);
+  split = sym (take-append-drop (longest + 1) bytes);
 }
 
 -- the same of all the bytes
-pub long_of_all : (bytes : List ℕ) → All (λ b. b ≢ 10) bytes → 8192 < length bytes → HasLongLine bytes
-long_of_all bytes none more =
-    long_of bytes (length bytes) (subst NoEnd (sym (take_all (length bytes) bytes (omega arith))) none) more more
+pub long_of_all : (longest : ℕ) (bytes : List ℕ) → All (λ b. b ≢ 10) bytes → longest < length bytes → HasLongLine longest bytes
+long_of_all longest bytes none more =
+    long_of longest bytes (length bytes) (subst NoEnd (sym (take_all (length bytes) bytes (omega arith))) none) more more
 
 -- an end among the bytes is one
 pub has_end : (xs ys : List ℕ) → All (λ b. b ≢ 10) (xs ++ 10 ∷ ys) → ⊥
@@ -30,19 +30,19 @@ has_end [] ys none = none 0 0 (omega arith) refl
 has_end (x ∷ xs) ys none = has_end xs ys (All-tail (λ b. b ≢ 10) x (xs ++ 10 ∷ ys) none)
 
 -- the beginning of a line doesn't begin with a whole one
-pub line_is_no_part : (bytes : List ℕ) → HasLine bytes → IsText bytes → ⊥
-line_is_no_part bytes h part = has_end h.line h.rest (subst NoEnd h.split part.one_line)
+pub line_is_no_part : (longest : ℕ) (bytes : List ℕ) → HasLine longest bytes → IsText longest bytes → ⊥
+line_is_no_part longest bytes h part = has_end h.line h.rest (subst NoEnd h.split part.one_line)
 
-pub long_is_no_part : (bytes : List ℕ) → HasLongLine bytes → IsText bytes → ⊥
-long_is_no_part bytes h part =
+pub long_is_no_part : (longest : ℕ) (bytes : List ℕ) → HasLongLine longest bytes → IsText longest bytes → ⊥
+long_is_no_part longest bytes h part =
     absurd (omega (arith, ap length h.split, length-append h.bad h.rest, h.long, part.short))
 
-pub known_is_no_part : (bytes : List ℕ) → HasKnownLine bytes → IsText bytes → ⊥
-known_is_no_part bytes h part = elim h [ inl line ↦ line_is_no_part bytes line part | inr long ↦ long_is_no_part bytes long part ]
+pub known_is_no_part : (longest : ℕ) (bytes : List ℕ) → HasKnownLine longest bytes → IsText longest bytes → ⊥
+known_is_no_part longest bytes h part = elim h [ inl line ↦ line_is_no_part longest bytes line part | inr long ↦ long_is_no_part longest bytes long part ]
 
 -- where the first line's length is known, the bytes begin with a line
-pub line_of_len : (bytes : List ℕ) (len : ℕ) → IsLineLen bytes len → HasLine bytes
-line_of_len bytes len h = record { line = take len bytes; rest = drop (len + 1) bytes; text = h.text; split = h.split }
+pub line_of_len : (longest : ℕ) (bytes : List ℕ) (len : ℕ) → IsLineLen longest bytes len → HasLine longest bytes
+line_of_len longest bytes len h = record { line = take len bytes; rest = drop (len + 1) bytes; text = h.text; split = h.split }
 
-pub line_len_is_no_part : (bytes : List ℕ) (len : ℕ) → IsLineLen bytes len → IsText bytes → ⊥
-line_len_is_no_part bytes len h part = line_is_no_part bytes (line_of_len bytes len h) part
+pub line_len_is_no_part : (longest : ℕ) (bytes : List ℕ) (len : ℕ) → IsLineLen longest bytes len → IsText longest bytes → ⊥
+line_len_is_no_part longest bytes len h part = line_is_no_part longest bytes (line_of_len longest bytes len h) part

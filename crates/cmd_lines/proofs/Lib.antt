@@ -1,7 +1,9 @@
 pub mod Buffers
 pub mod Cuts
 pub mod Fronts
+pub mod Grammar
 pub mod Orders
+pub mod Places
 pub mod Reading
 pub mod Steps
 pub mod Texts

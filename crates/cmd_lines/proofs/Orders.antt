@@ -34,7 +34,7 @@ held_come : (s t : ReaderState) (left' : Option (List ℕ)) (taken bytes : List 
 held_come s t left' taken bytes at held = record { more = at.more; told = at.told; joined = ap (λ (l : List ℕ). l ++ at.more) held.waits ∙ at.joined }
 
 next_of : (s t : ReaderState) (left' : Option (List ℕ)) (taken : List ℕ) (answer : Result (Option (List ℕ)) LineFault) (text rest : List ℕ)
-    → Answers s t taken answer → KnowsEnd t left' → Split s left' taken (text ++ 10 ∷ rest) → IsText text → GivesNext t left' text rest answer
+    → Answers s t taken answer → KnowsEnd t left' → Split s left' taken (text ++ 10 ∷ rest) → IsText s.longest text → GivesNext t left' text rest answer
 next_of s t left' taken (Ok (Some line)) text rest did knows at is = elim did [
   | inl first ↦
       let joined : line ++ 10 ∷ (t.pending ++ at.more) ≡ text ++ 10 ∷ rest = sym (append_assoc line (10 ∷ t.pending) at.more) ∙ ap (λ (l : List ℕ). l ++ at.more) (sym first.split) ∙ at.joined in
@@ -58,7 +58,7 @@ next_of s t left' taken (Err Memory) text rest did knows at is = held_come s t l
 next_of s t left' taken (Err Limit) text rest did knows at is = held_come s t left' taken (text ++ 10 ∷ rest) at did.0.held
 
 rest_of : (s t : ReaderState) (left' : Option (List ℕ)) (taken : List ℕ) (answer : Result (Option (List ℕ)) LineFault) (text : List ℕ)
-    → Answers s t taken answer → KnowsEnd t left' → Split s left' taken text → IsText text → GivesRest t left' text answer
+    → Answers s t taken answer → KnowsEnd t left' → Split s left' taken text → IsText s.longest text → GivesRest t left' text answer
 rest_of s t left' taken (Ok (Some line)) text did knows at is = elim did [
   | inl first ↦
       let joined : text ≡ line ++ 10 ∷ (t.pending ++ at.more) = sym at.joined ∙ ap (λ (l : List ℕ). l ++ at.more) first.split ∙ append_assoc line (10 ∷ t.pending) at.more in

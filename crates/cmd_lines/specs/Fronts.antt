@@ -6,12 +6,12 @@ use Rattle.cmd_lines.specs.Texts.{IsText}
 use Rattle.cmd_lines.specs.Reader.{HasLongLine}
 
 -- the bytes begin with a line of this length and its end
-pub record IsLineLen (bytes : List ℕ) (len : ℕ) : Type 0 where
-  pub text : IsText (take len bytes)
+pub record IsLineLen (longest : ℕ) (bytes : List ℕ) (len : ℕ) : Type 0 where
+  pub text : IsText longest (take len bytes)
   pub split : bytes ≡ take len bytes ++ 10 ∷ drop (len + 1) bytes
 
 -- what the bytes begin with
-abbrev pub IsFront : List ℕ → Front → Type 0
-IsFront bytes (Line len) = IsLineLen bytes len
-IsFront bytes TooLong = HasLongLine bytes
-IsFront bytes Unfinished = IsText bytes
+abbrev pub IsFront : ℕ → List ℕ → Front → Type 0
+IsFront longest bytes (Line len) = IsLineLen longest bytes len
+IsFront longest bytes TooLong = HasLongLine longest bytes
+IsFront longest bytes Unfinished = IsText longest bytes

@@ -32,9 +32,9 @@ GivesRest t left text (Err Limit) = AreToCome t left text
 -- the line that comes next is the one that is handed out
 abbrev pub NextLineIsGiven : Type 0
 NextLineIsGiven = (s t : ReaderState) (left left' : Option (List ℕ)) (answer : Result (Option (List ℕ)) LineFault) (text rest : List ℕ)
-    → ReadsLine s t left left' answer → KnowsEnd t left' → AreToCome s left (text ++ 10 ∷ rest) → IsText text → GivesNext t left' text rest answer
+    → ReadsLine s t left left' answer → KnowsEnd t left' → AreToCome s left (text ++ 10 ∷ rest) → IsText s.longest text → GivesNext t left' text rest answer
 
 -- what comes after the last end is handed out as a line, if it is not empty, and then there is no more
 abbrev pub LastLineIsGiven : Type 0
 LastLineIsGiven = (s t : ReaderState) (left left' : Option (List ℕ)) (answer : Result (Option (List ℕ)) LineFault) (text : List ℕ)
-    → ReadsLine s t left left' answer → KnowsEnd t left' → AreToCome s left text → IsText text → GivesRest t left' text answer
+    → ReadsLine s t left left' answer → KnowsEnd t left' → AreToCome s left text → IsText s.longest text → GivesRest t left' text answer

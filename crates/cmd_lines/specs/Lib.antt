@@ -4,5 +4,6 @@ pub mod Laws
 pub mod Limits
 pub mod Reader
 pub mod Reading
+pub mod Script
 pub mod Steps
 pub mod Texts

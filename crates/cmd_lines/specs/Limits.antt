@@ -1,7 +1,7 @@
 -- The limits of a reader of lines.
 use Rattle.std.specs.Prelude.{ℕ, ◌^◌}
 
--- the greatest number of bytes of a line, its end not counted
+-- the greatest number of bytes of a script's line, its end not counted
 abbrev pub most_line : ℕ
 most_line = 8192
 

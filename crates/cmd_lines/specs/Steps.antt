@@ -12,7 +12,7 @@ use Rattle.cmd_lines.specs.Reader.{ReaderState}
 pub record IsSound (s : ReaderState) : Type 0 where
   pub few : s.lines + length s.pending ≤ s.taken
   pub most : s.taken ≤ most_taken
-  pub last : s.ended ≡ true → IsText s.pending
+  pub last : s.ended ≡ true → IsText s.longest s.pending
 
 -- a read appended so many bytes to a buffer, at most this many and 4,096, and none only at the end
 pub record AppendsRead (left left' : Option (List ℕ)) (old new : List ℕ) (most count : ℕ) : Type 0 where
@@ -38,6 +38,7 @@ pub record TakesMore (s t : ReaderState) (left left' : Option (List ℕ)) : Type
   pub counted : t.taken ≡ s.taken + length taken
   pub waits : t.pending ≡ s.pending ++ taken
   pub lines : t.lines ≡ s.lines
+  pub limit : t.longest ≡ s.longest
   pub most : t.taken ≤ most_taken
   pub one_read : length taken ≤ most_read
   pub goes_on : (t.ended ≡ false) × (0 < length taken) ⊎ (t.ended ≡ true) × IsAtEnd left'

@@ -4,9 +4,6 @@ ghost use Rattle.cmd_lines.specs.Fronts.{IsFront};
 /// The end of a line.
 const LINE_END: u8 = 10;
 
-/// How many bytes a line may have before its end.
-const LINE_LIMIT: usize = 8_192;
-
 /// What bytes that wait begin with.
 #[derive(Clone, Copy, Debug, PartialEq, Eq)]
 pub(crate) enum Front {
@@ -28,20 +25,20 @@ fn place_of_end(bytes: &[u8]) -> Option<usize>
     bytes.iter().position(|b| *b == LINE_END)
 }
 
-/// What the bytes begin with.
-pub(crate) fn front_of(bytes: &[u8]) -> Front
-    ensures { IsFront bytes.now result }
+/// What the bytes begin with, where a line may have so many before its end.
+pub(crate) fn front_of(bytes: &[u8], longest: usize) -> Front
+    ensures { IsFront longest bytes.now result }
 {
     match place_of_end(bytes) {
         Some(len) => {
-            if len > LINE_LIMIT {
+            if len > longest {
                 Front::TooLong
             } else {
                 Front::Line(len)
             }
         }
         None => {
-            if bytes.len() > LINE_LIMIT {
+            if bytes.len() > longest {
                 Front::TooLong
             } else {
                 Front::Unfinished

@@ -10,4 +10,4 @@ mod line_reader;
 mod tests;
 
 pub use line_fault::LineFault;
-pub use line_reader::LineReader;
+pub use line_reader::{LINE_LIMIT, LineReader};

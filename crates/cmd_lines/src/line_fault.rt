@@ -1,3 +1,4 @@
+use cmd_status::Status;
 use r2_base::{Failed, NoMemory};
 use std::error::Error;
 use std::fmt;
@@ -9,10 +10,27 @@ pub enum LineFault {
     Source,
     /// Memory ran out.
     Memory,
-    /// The next line has more than 8,192 bytes.
+    /// The next line has more bytes than a line may have.
     TooLong,
     /// As much was taken as may be, 2^56 bytes, and no line is known.
     Limit,
+}
+
+impl LineFault {
+    ghost use Rattle.std.specs.Prelude.{◌≡◌};
+    ghost use Rattle.cmd_lines.specs.Faults.{status_of};
+
+    /// How a run of a script ends where the line with this number can't be had.
+    pub fn status(self, number: u64) -> Status
+        ensures { result ≡ status_of self number }
+    {
+        match self {
+            LineFault::Source => Status::SourceFault,
+            LineFault::Memory => Status::Memory,
+            LineFault::TooLong => Status::BadScript { line: number },
+            LineFault::Limit => Status::TurnsSpent,
+        }
+    }
 }
 
 impl From<Failed> for LineFault {
@@ -47,7 +65,7 @@ impl fmt::Display for LineFault {
         f.write_str(match self {
             LineFault::Source => "the source failed",
             LineFault::Memory => "out of memory",
-            LineFault::TooLong => "the line has more than 8192 bytes",
+            LineFault::TooLong => "the line is too long",
             LineFault::Limit => "2^56 bytes were read",
         })
     }

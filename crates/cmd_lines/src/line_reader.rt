@@ -1,7 +1,7 @@
 ghost use Rattle.std.specs.Prelude.{◌≡◌, ◌⊎◌, ◌≤◌, ◌<◌, ◌+◌, ◌^◌, ◌↔◌, [], true, false, take, drop, length, Some, Err, IsTrue, IfOk, IfErr, OnOk, OnErr};
 ghost use Rattle.std.specs.Io.KnownBytes.{Keeps};
 ghost use Rattle.r2_link.specs.Faults.{Rose};
-ghost use Rattle.cmd_lines.specs.Limits.{most_taken};
+ghost use Rattle.cmd_lines.specs.Limits.{most_line, most_taken};
 ghost use Rattle.cmd_lines.specs.Texts.{IsText};
 
 use crate::LineFault;
@@ -12,13 +12,16 @@ use r2_link::Source;
 use std::alloc::Global;
 use std::marker::Model;
 
+/// How many bytes a line of a script may have before its end.
+pub const LINE_LIMIT: usize = 8_192;
+
 /// How many bytes are taken of a source at most.
 const SOURCE_LIMIT: u64 = 1 << 56;
 
 /// Reads the lines of one source, one at a time.
 ///
-/// A line has at most 8,192 bytes and ends with LF, which is not counted; the last one may lack it. A line is known once its
-/// LF, the source's end or one byte more than it may have was taken. At most 2^56 bytes are taken.
+/// A line has as many bytes as it may have at most and ends with LF, which is not counted; the last one may lack it. A line is
+/// known once its LF, the source's end or one byte more than it may have was taken. At most 2^56 bytes are taken.
 #[derive(Debug, Drop)]
 pub struct LineReader {
     buffer: Vec<u8>,
@@ -27,6 +30,7 @@ pub struct LineReader {
     taken: u64,
     lines: u64,
     ended: bool,
+    longest: usize,
 }
 
 impl Model for LineReader {
@@ -36,18 +40,18 @@ impl Model for LineReader {
 
     ghost Value = { ReaderState };
 
-    ghost view = { λ a. record { pending = drop a.start a.buffer.items; taken = a.taken; lines = a.lines; ended = a.ended } };
+    ghost view = { λ a. record { pending = drop a.start a.buffer.items; taken = a.taken; lines = a.lines; ended = a.ended; longest = a.longest } };
 
-    ghost invariant = { λ a. (a.start ≤ length a.buffer.items) × IsSound (record { pending = drop a.start a.buffer.items; taken = a.taken; lines = a.lines; ended = a.ended }) };
+    ghost invariant = { λ a. (a.start ≤ length a.buffer.items) × IsSound (record { pending = drop a.start a.buffer.items; taken = a.taken; lines = a.lines; ended = a.ended; longest = a.longest }) };
 }
 
 impl LineReader {
     ghost use Rattle.cmd_lines.specs.Reader.{HasKnownLine, Answers, ReadsLine, KnowsEnd};
     ghost use Rattle.cmd_lines.specs.Steps.{TakesMore, FailsMore};
 
-    /// A reader that has taken nothing, with no memory taken.
-    pub fn new(alloc: Global) -> LineReader
-        ensures { result ≡ record { pending = []; taken = 0; lines = 0; ended = false } }
+    /// A reader of lines that may have so many bytes. It has taken nothing, and no memory either.
+    pub fn new(alloc: Global, longest: usize) -> LineReader
+        ensures { result ≡ record { pending = []; taken = 0; lines = 0; ended = false; longest = longest } }
     {
         LineReader {
             buffer: Vec::new(alloc),
@@ -55,6 +59,7 @@ impl LineReader {
             taken: 0,
             lines: 0,
             ended: false,
+            longest,
         }
     }
 
@@ -68,13 +73,13 @@ impl LineReader {
 
     /// Whether more of the source is needed to know the next line.
     fn has_to_read(&self) -> bool
-        ensures answer { IsTrue result ↔ (IsText self.now.pending × (self.now.ended ≡ false)) }
+        ensures answer { IsTrue result ↔ (IsText self.now.longest self.now.pending × (self.now.ended ≡ false)) }
         ensures most { self.now.taken ≤ most_taken }
     {
         if self.ended {
             return false;
         }
-        match front_of(&self.buffer[self.start..]) {
+        match front_of(&self.buffer[self.start..], self.longest) {
             Front::Unfinished => true,
             Front::Line(_) => false,
             Front::TooLong => false,
@@ -83,7 +88,7 @@ impl LineReader {
 
     /// Takes some more of the source.
     fn read_more<S: Source>(&mut self, source: &mut S) -> Result<(), LineFault>
-        requires unfinished { IsText self.old.pending }
+        requires unfinished { IsText self.old.longest self.old.pending }
         requires open_end { self.old.ended ≡ false }
 
         ensures more { OnOk result (TakesMore self.old self.new (S.left source.old) (S.left source.new)) }
@@ -130,14 +135,15 @@ impl LineReader {
 
     /// Hands out the line that is known, if there is one.
     fn hand_out(&mut self, alloc: Global) -> Result<Option<Bytes>, LineFault>
-        requires known { IsText self.old.pending → self.old.ended ≡ true }
+        requires known { IsText self.old.longest self.old.pending → self.old.ended ≡ true }
 
         ensures answers { Answers self.old self.new [] result }
         ensures taken { self.new.taken ≡ self.old.taken }
         ensures ended { self.new.ended ≡ self.old.ended }
+        ensures limit { self.new.longest ≡ self.old.longest }
         ensures cause { result ≡ Err LineFault.Source → ⊥ }
     {
-        match front_of(&self.buffer[self.start..]) {
+        match front_of(&self.buffer[self.start..], self.longest) {
             Front::Line(len) => self.give(alloc, len, len + 1),
             Front::TooLong => Err(LineFault::TooLong),
             Front::Unfinished => {
@@ -164,7 +170,7 @@ impl LineReader {
         ensures most { self.new.taken ≤ most_taken }
 
         // Nothing is read where the next line is known, or the end was reached.
-        ensures lazy { HasKnownLine self.old.pending ⊎ (self.old.ended ≡ true) → source.new ≡ source.old }
+        ensures lazy { HasKnownLine self.old.longest self.old.pending ⊎ (self.old.ended ≡ true) → source.new ≡ source.old }
         ensures stays_ended { self.old.ended ≡ true → self.new.ended ≡ true }
         ensures knows_end { KnowsEnd self.old (S.left source.old) → KnowsEnd self.new (S.left source.new) }
 

@@ -1,4 +1,4 @@
-use crate::{LineFault, LineReader};
+use crate::{LINE_LIMIT, LineFault, LineReader};
 use r2_base::{Bytes, Numbers};
 use r2_link::MemSource;
 use std::test::Fail;
@@ -18,7 +18,7 @@ fn lines_come_in_order(rt: HostRuntime) -> Result<(), Fail> {
     let alloc = rt.alloc();
     for (text, lines) in LINES {
         let mut source = MemSource::new(Bytes::from_vec(text.to_vec(alloc)?), Numbers::new(alloc));
-        let mut reader = LineReader::new(alloc);
+        let mut reader = LineReader::new(alloc, LINE_LIMIT);
         for line in lines {
             let want = Bytes::from_vec(line.to_vec(alloc)?);
             assert_eq!(rt; reader.next_line(alloc, &mut source)?, Some(want));
@@ -29,21 +29,23 @@ fn lines_come_in_order(rt: HostRuntime) -> Result<(), Fail> {
     Ok(())
 }
 
-// How long a line is, and how long a line is given or why none is, with its end and without.
-const LONG_LINES: [(usize, Result<Option<usize>, LineFault>); 2] = [
-    (8_192, Ok(Some(8_192))),
-    (8_193, Err(LineFault::TooLong)),
+// How long a line may be, how long it is, and how long a line is given or why none is, with its end and without.
+const LONG_LINES: [(usize, usize, Result<Option<usize>, LineFault>); 4] = [
+    (LINE_LIMIT, 8_192, Ok(Some(8_192))),
+    (LINE_LIMIT, 8_193, Err(LineFault::TooLong)),
+    (3, 3, Ok(Some(3))),
+    (3, 4, Err(LineFault::TooLong)),
 ];
 
 #[test]
-fn line_has_8192_bytes_at_most(rt: HostRuntime) -> Result<(), Fail> {
+fn line_has_as_many_bytes_as_it_may(rt: HostRuntime) -> Result<(), Fail> {
     let alloc = rt.alloc();
-    for (len, want) in LONG_LINES {
+    for (longest, len, want) in LONG_LINES {
         for end in ["", "\n", "\nquiet"] {
             let mut text = vec![in alloc; b'0'; len]?;
             text.extend_from_slice(end.as_bytes())?;
             let mut source = MemSource::new(Bytes::from_vec(text), Numbers::new(alloc));
-            let mut reader = LineReader::new(alloc);
+            let mut reader = LineReader::new(alloc, longest);
             let got = reader.next_line(alloc, &mut source);
             assert_eq!(rt; got.map(|line| line.map(|line| line.len())), want);
         }
@@ -56,7 +58,7 @@ fn reading_goes_on_behind_a_fault(rt: HostRuntime) -> Result<(), Fail> {
     let alloc = rt.alloc();
     let fails = Numbers::from_vec([1].to_vec(alloc)?);
     let mut source = MemSource::new(Bytes::from_vec(b"tick\n".to_vec(alloc)?), fails);
-    let mut reader = LineReader::new(alloc);
+    let mut reader = LineReader::new(alloc, LINE_LIMIT);
     assert_eq!(rt;
         reader.next_line(alloc, &mut source),
         Err(LineFault::Source)

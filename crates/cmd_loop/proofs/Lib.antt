@@ -1,4 +1,11 @@
-pub mod Told
-pub mod Rounds
+pub mod Endings
+pub mod Heard
 pub mod Loops
+pub mod Notes
+pub mod Passing
+pub mod Plains
+pub mod Sends
+pub mod Steps
+pub mod Taking
+pub mod Ticks
 pub mod Weaker

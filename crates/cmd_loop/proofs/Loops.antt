@@ -1,395 +1,161 @@
--- A loop so far, round by round, and how it ends.
-use Rattle.std.proofs.Common.{◌≡◌, inl, inr, ℕ, ◌+◌, ◌<◌, max, List, [], ◌∷◌, ◌++◌, length, Option, None, refl, sym, ap, ◌∙◌, subst, append_assoc, append-nil, length-append, arith}
+-- A loop so far, round by round.
+use Rattle.std.proofs.Common.{◌≡◌, ℕ, ◌+◌, List, [], ◌∷◌, ◌++◌, length, refl, sym, ap, ◌∙◌, subst, append-nil}
 use Rattle.r2_base.specs.declared.datagram.Datagram.{Datagram}
-use Rattle.r2_base.specs.declared.event.Event.{Event}
-use Rattle.r2_base.specs.declared.event.Event.TheVariants.{Tick}
 use Rattle.r2_link.specs.declared.lane.Item.{Item}
-use Rattle.r2_link.specs.declared.lane.Item.TheVariants.{Datagram as ADatagram, Quiet as NoDatagram}
+use Rattle.r2_link.specs.Links.{LinkTold}
+use Rattle.hc_log.specs.declared.record.Record.{Record}
 use Rattle.cmd_status.specs.declared.status.Status.{Status}
-use Rattle.cmd_status.specs.declared.status.Status.TheVariants.{Done, LinkFault, ClockFault, Memory, TurnsSpent}
-use Rattle.cmd_loop.specs.declared.pace.Pace.{Pace}
+use Rattle.cmd_status.specs.declared.status.Status.TheVariants.{LinkFault, DiskFault, Memory}
 use Rattle.cmd_loop.specs.declared.ticker.Ticker.{Ticker}
-use Rattle.cmd_loop.specs.Events.{due, elapsed, event_of, events, heard, reached}
-use Rattle.cmd_loop.specs.Outside.{Outside, Passes, RanDry}
-use Rattle.cmd_loop.specs.Round.{AsksClock, StopsItem, StopsTick, TakesItem, due_at, ticked}
-use Rattle.cmd_loop.specs.Loop.{AskedBefore, EndsBetween, NotAskedBehindLast, Serves}
-use Rattle.cmd_loop.proofs.Told.{IsKept-refl, Passes-trans, dry-from}
+use Rattle.cmd_loop.specs.Ends.{Ends, Passes, passing}
+use Rattle.cmd_loop.specs.Events.{event_of, events}
+use Rattle.cmd_loop.specs.Happenings.{Happening, Came, came, closed}
+use Rattle.cmd_loop.specs.Loop.{AskedBefore, GivesPart, LosesTurn, Rule}
+use Rattle.cmd_loop.specs.Party.{Turns}
+use Rattle.cmd_loop.specs.Round.{AsksClock, Closes, Makes, SomeTurns, Stops, due_at}
+use Rattle.cmd_loop.proofs.Heard.{came-item, came-moment, events-begun, one-more, ticker-begun, ticker-more, ticker_at}
+use Rattle.cmd_loop.proofs.Passing.{Passes-link, Passes-then}
+use Rattle.cmd_loop.proofs.Steps.{Turned}
 
--- the events of one more item, before the clock is asked behind it
-pub heard-item : (tick start last : ℕ) (items : List Item) (moments : List ℕ) (item : Item)
-    → length moments ≡ length items → heard tick start last (items ++ item ∷ []) moments ≡ heard tick start last items moments ++ event_of item ∷ []
-unfolding heard
-heard-item tick start last [] [] item same = refl
-heard-item tick start last [] (m ∷ ms) item same = absurd (omega (arith, same))
-heard-item tick start last (i ∷ is) [] item same = absurd (omega (arith, same))
-heard-item tick start last (i ∷ is) (m ∷ ms) item same =
-    let now = elapsed tick start m in
-    ap (λ (l : List Event). (event_of i ∷ due last now) ++ l) (heard-item tick start (max last now) is ms item (omega (arith, same)))
-    ∙ sym (append_assoc (event_of i ∷ due last now) (heard tick start (max last now) is ms) (event_of item ∷ []))
+-- the turns of a party that is that one now, and of one that is any
+abbrev pub Whole : {P : Type 0} → Turned P → P → P → Rule
+Whole T first now happened stored sent = T first happened stored sent now
 
--- and behind it
-pub heard-round : (tick start last : ℕ) (items : List Item) (moments : List ℕ) (item : Item) (moment : ℕ)
-    → length moments ≡ length items
-    → heard tick start last (items ++ item ∷ []) (moments ++ moment ∷ []) ≡ heard tick start last items moments ++ event_of item ∷ due (reached tick start last moments) (elapsed tick start moment)
-unfolding heard reached
-heard-round tick start last [] [] item moment same = append-nil (event_of item ∷ due last (elapsed tick start moment))
-heard-round tick start last [] (m ∷ ms) item moment same = absurd (omega (arith, same))
-heard-round tick start last (i ∷ is) [] item moment same = absurd (omega (arith, same))
-heard-round tick start last (i ∷ is) (m ∷ ms) item moment same =
-    let now = elapsed tick start m in
-    let more = event_of item ∷ due (reached tick start (max last now) ms) (elapsed tick start moment) in
-    ap (λ (l : List Event). (event_of i ∷ due last now) ++ l) (heard-round tick start (max last now) is ms item moment (omega (arith, same)))
-    ∙ sym (append_assoc (event_of i ∷ due last now) (heard tick start (max last now) is ms) more)
+abbrev pub Any : {P : Type 0} → Turned P → P → Rule
+Any {P} T first happened stored sent = (last : P) × T first happened stored sent last
 
--- the ticks that have gone by at one more moment
-pub reached-more : (tick start last : ℕ) (moments : List ℕ) (moment : ℕ)
-    → reached tick start last (moments ++ moment ∷ []) ≡ max (reached tick start last moments) (elapsed tick start moment)
-unfolding reached
-reached-more tick start last [] moment = refl
-reached-more tick start last (m ∷ ms) moment = reached-more tick start (max last (elapsed tick start m)) ms moment
+-- what passes in two stretches, whose lists are called by names
+passes-on : (a b c : Ends) (is js items : List Item) (ms ns moments : List ℕ) (rs rs' : List Record) (ds ds' : List Datagram)
+    → is ++ js ≡ items → ms ++ ns ≡ moments → Passes a b (passing is ms rs ds) → Passes b c (passing js ns rs' ds')
+    → Passes a c (passing items moments (rs ++ rs') (ds ++ ds'))
+passes-on a b c is js items ms ns moments rs rs' ds ds' items-are moments-are p q =
+    subst (λ (l : List Item). Passes a c (passing l moments (rs ++ rs') (ds ++ ds'))) items-are
+    (subst (λ (l : List ℕ). Passes a c (passing (is ++ js) l (rs ++ rs') (ds ++ ds'))) moments-are
+    (Passes-then a b c (passing is ms rs ds) (passing js ns rs' ds') p q))
 
--- what passed while the clock wasn't asked
-pub passes-with : (l m : Option (List Item)) (s t : Option (List Datagram)) (clock : Option (List ℕ)) (items : List Item) (sends : List Datagram)
-    → Passes (record { left = l; sent = s; clock = None }) (record { left = m; sent = t; clock = None }) items [] sends
-    → Passes (record { left = l; sent = s; clock = clock }) (record { left = m; sent = t; clock = clock }) items [] sends
-passes-with l m s t clock items sends p = record { took = p.took; told = IsKept-refl clock; gave = p.gave }
+-- turns in two stretches
+pub Makes-on : {P : Type 0} (T : Turned P) (first p q : P) (hs more all : List Happening) (a b c : Ends) (is js items : List Item) (ms ns moments : List ℕ)
+    → hs ++ more ≡ all → is ++ js ≡ items → ms ++ ns ≡ moments
+    → Makes (Whole T first p hs) a b is ms → Makes (Turns T p q more) b c js ns → Makes (Whole T first q all) a c items moments
+Makes-on T first p q hs more all a b c is js items ms ns moments all-are items-are moments-are x y = record {
+  stored = x.stored ++ y.stored;
+  sends = x.sends ++ y.sends;
+  right = subst (λ (l : List Happening). T first l (x.stored ++ y.stored) (x.sends ++ y.sends) q) all-are (y.right first hs x.stored x.sends x.right);
+  passed = passes-on a b c is js items ms ns moments x.stored y.stored x.sends y.sends items-are moments-are x.passed y.passed;
+}
 
-pub takes-with : {P : Type 0} (T : P → List Event → List Datagram → P → Type 0) (p q : P) (l m : Option (List Item)) (s t : Option (List Datagram)) (clock : Option (List ℕ))
-    → TakesItem T p q (record { left = l; sent = s; clock = None }) (record { left = m; sent = t; clock = None })
-    → TakesItem T p q (record { left = l; sent = s; clock = clock }) (record { left = m; sent = t; clock = clock })
-takes-with T p q l m s t clock made =
-    record { item = made.item; sends = made.sends; passed = passes-with l m s t clock (made.item ∷ []) made.sends made.passed; turned = made.turned }
+-- turns, and then something is taken in of which nothing is made
+pub Makes-only : {P : Type 0} (T : Turned P) (first p : P) (hs : List Happening) (a b c : Ends) (is js items : List Item) (ms ns moments : List ℕ)
+    → is ++ js ≡ items → ms ++ ns ≡ moments
+    → Makes (Whole T first p hs) a b is ms → Passes b c (passing js ns [] []) → Makes (Any T first hs) a c items moments
+Makes-only T first p hs a b c is js items ms ns moments items-are moments-are x passed = record {
+  stored = x.stored;
+  sends = x.sends;
+  right = (p, x.right);
+  passed = subst (λ (l : List Record). Passes a c (passing items moments l x.sends)) (append-nil x.stored)
+      (subst (λ (l : List Datagram). Passes a c (passing items moments (x.stored ++ []) l)) (append-nil x.sends)
+      (passes-on a b c is js items ms ns moments x.stored [] x.sends [] items-are moments-are x.passed passed));
+}
 
-pub stops-with : {P : Type 0} (T : P → List Event → List Datagram → P → Type 0) (p q : P) (l m : Option (List Item)) (s t : Option (List Datagram)) (clock : Option (List ℕ)) (status : Status)
-    → StopsItem T p q (record { left = l; sent = s; clock = None }) (record { left = m; sent = t; clock = None }) status
-    → StopsItem T p q (record { left = l; sent = s; clock = clock }) (record { left = m; sent = t; clock = clock }) status
-stops-with T p q l m s t clock LinkFault (inl none) = inl (passes-with l m s t clock [] [] none)
-stops-with T p q l m s t clock LinkFault (inr cut) =
-    inr (record { item = cut.item; front = cut.front; rest = cut.rest; passed = passes-with l m s t clock (cut.item ∷ []) cut.front cut.passed; turned = cut.turned })
-stops-with T p q l m s t clock Memory (inl none) = inl (passes-with l m s t clock [] [] none)
-stops-with T p q l m s t clock Memory (inr lost) = inr (record { item = lost.item; passed = passes-with l m s t clock (lost.item ∷ []) [] lost.passed })
-stops-with T p q l m s t clock _ stops = absurd stops
+-- what a turn that stopped leaves, as the last one of a loop
+abbrev pub Lost : Rule → List Happening → Ends → Ends → List Item → List ℕ → Status → Type 0
+Lost S all old new items moments LinkFault = GivesPart S all old new items moments
+Lost S all old new items moments DiskFault = LosesTurn S all old new items moments
+Lost S all old new items moments Memory = LosesTurn S all old new items moments
+Lost S all old new items moments _ = ⊥
 
--- what passes behind a stretch: nothing, an item, or a moment
-passes-on : (a b c : Outside) (items : List Item) (moments : List ℕ) (sends : List Datagram)
-    → Passes a b items moments sends → Passes b c [] [] [] → Passes a c items moments sends
-passes-on a b c items moments sends p none =
-    subst (λ (ds : List Datagram). Passes a c items moments ds) (append-nil sends)
-    (subst (λ (ms : List ℕ). Passes a c items ms (sends ++ [])) (append-nil moments)
-    (subst (λ (is : List Item). Passes a c is (moments ++ []) (sends ++ [])) (append-nil items)
-    (Passes-trans a b c items [] moments [] sends [] p none)))
+pub lost-last : {P : Type 0} (T : Turned P) (first p : P) (hs all : List Happening) (h : Happening) (a b c : Ends) (is js items : List Item) (ms ns moments : List ℕ) (status : Status)
+    → hs ++ h ∷ [] ≡ all → is ++ js ≡ items → ms ++ ns ≡ moments → AskedBefore h items moments
+    → Makes (Whole T first p hs) a b is ms → Stops (SomeTurns T p (h ∷ [])) b c js ns status → Lost (Any T first) all a c items moments status
+lost-last T first p hs all h a b c is js items ms ns moments LinkFault all-are items-are moments-are asked x y = record {
+  before = hs;
+  last = h;
+  is_last = record { last_of = sym all-are; asked = asked };
+  records = x.stored;
+  earlier = x.sends;
+  stored = y.stored;
+  sent = y.sent;
+  unsent = y.unsent;
+  right_before = (p, x.right);
+  right = (y.right.0, subst (λ (l : List Happening). T first l (x.stored ++ y.stored) (x.sends ++ (y.sent ++ y.unsent)) y.right.0) all-are (y.right.1 first hs x.stored x.sends x.right));
+  passed = passes-on a b c is js items ms ns moments x.stored y.stored x.sends y.sent items-are moments-are x.passed y.passed;
+}
+lost-last T first p hs all h a b c is js items ms ns moments DiskFault all-are items-are moments-are asked x passed = record {
+  before = hs;
+  last = h;
+  is_last = record { last_of = sym all-are; asked = asked };
+  made = Makes-only T first p hs a b c is js items ms ns moments items-are moments-are x passed;
+}
+lost-last T first p hs all h a b c is js items ms ns moments Memory all-are items-are moments-are asked x passed = record {
+  before = hs;
+  last = h;
+  is_last = record { last_of = sym all-are; asked = asked };
+  made = Makes-only T first p hs a b c is js items ms ns moments items-are moments-are x passed;
+}
+lost-last T first p hs all h a b c is js items ms ns moments _ all-are items-are moments-are asked x stops = absurd stops
 
-passes-item : (a b c : Outside) (items : List Item) (item : Item) (moments : List ℕ) (sends more : List Datagram)
-    → Passes a b items moments sends → Passes b c (item ∷ []) [] more → Passes a c (items ++ item ∷ []) moments (sends ++ more)
-passes-item a b c items item moments sends more p q =
-    subst (λ (ms : List ℕ). Passes a c (items ++ item ∷ []) ms (sends ++ more)) (append-nil moments)
-    (Passes-trans a b c items (item ∷ []) moments [] sends more p q)
-
-passes-moment : (a b c : Outside) (items : List Item) (start : ℕ) (later : List ℕ) (moment : ℕ) (sends more : List Datagram)
-    → Passes a b items (start ∷ later) sends → Passes b c [] (moment ∷ []) more → Passes a c items (start ∷ (later ++ moment ∷ [])) (sends ++ more)
-passes-moment a b c items start later moment sends more p q =
-    subst (λ (is : List Item). Passes a c is (start ∷ (later ++ moment ∷ [])) (sends ++ more)) (append-nil items)
-    (Passes-trans a b c items [] (start ∷ later) (moment ∷ []) sends more p q)
+-- turns after the end of a link, as a stretch of a loop
+pub closes-made : {P : Type 0} (T : Turned P) (p q : P) (o : Ends) (l m : LinkTold) (n : ℕ)
+    → Closes T p q l m n → Makes (Turns T p q (closed n [])) (record o { link = l }) (record o { link = m }) [] []
+closes-made T p q o l m n closes = record { stored = []; sends = closes.sends; right = closes.turned; passed = Passes-link o l m [] closes.sends closes.passed }
 
 -- a loop behind so many whole rounds
-pub record IsAt {P : Type 0} (T : P → List Event → List Datagram → P → Type 0) (first now : P) (start : ℕ) (t : Ticker) (made : ℕ) (old new : Outside) : Type 0 where
+pub record IsAt {P : Type 0} (T : Turned P) (first now : P) (start tick : ℕ) (t : Ticker) (made : ℕ) (old new : Ends) : Type 0 where
   pub items : List Item
   pub later : List ℕ
-  pub sends : List Datagram
-  pub passed : Passes old new items (start ∷ later) sends
-  pub turned : T first (heard t.tick_ms t.start 0 items later) sends now
+  pub given : Makes (Whole T first now (came (events tick items (start ∷ later)))) old new items (start ∷ later)
   pub made_items : length items ≡ made
   pub each : length later ≡ length items
-  pub ticks : t.reached ≡ reached t.tick_ms t.start 0 later
-  pub began : t.start ≡ start
+  pub ticker : t ≡ ticker_at tick start later
 
 -- before the first round the clock gave the start
-pub at-start : {P : Type 0} (T : P → List Event → List Datagram → P → Type 0) (first : P) (start tick_ms : ℕ) (old new : Outside)
-    → T first [] [] first → Passes old new [] (start ∷ []) []
-    → IsAt T first first start (record { start = start; tick_ms = tick_ms; reached = 0 }) 0 old new
-unfolding heard reached
-at-start T first start tick_ms old new begins passed =
-    record { items = []; later = []; sends = []; passed = passed; turned = begins; made_items = refl; each = refl; ticks = refl; began = refl }
+pub at-start : {P : Type 0} (T : Turned P) (first : P) (start tick : ℕ) (old new : Ends)
+    → T first [] [] [] first → Passes old new (passing [] (start ∷ []) [] [])
+    → IsAt T first first start tick (record { start = start; tick_ms = tick; reached = 0 }) 0 old new
+at-start T first start tick old new begins passed = record {
+  items = [];
+  later = [];
+  given = record { stored = []; sends = []; right = subst (λ (l : List Happening). T first l [] [] first) (events-begun tick start) begins; passed = passed };
+  made_items = refl;
+  each = refl;
+  ticker = ticker-begun tick start;
+}
 
 -- a loop in a round, behind the turn of its item
-pub record IsWithin {P : Type 0} (T : P → List Event → List Datagram → P → Type 0) (first now : P) (start : ℕ) (t : Ticker) (made : ℕ) (old new : Outside) : Type 0 where
+pub record IsWithin {P : Type 0} (T : Turned P) (first now : P) (start tick : ℕ) (t : Ticker) (made : ℕ) (old new : Ends) : Type 0 where
   pub items : List Item
   pub item : Item
   pub later : List ℕ
-  pub sends : List Datagram
-  pub passed : Passes old new (items ++ item ∷ []) (start ∷ later) sends
-  pub turned : T first (heard t.tick_ms t.start 0 items later ++ event_of item ∷ []) sends now
+  pub given : Makes (Whole T first now (came (events tick (items ++ item ∷ []) (start ∷ later)))) old new (items ++ item ∷ []) (start ∷ later)
   pub made_items : length items ≡ made
   pub each : length later ≡ length items
-  pub ticks : t.reached ≡ reached t.tick_ms t.start 0 later
-  pub began : t.start ≡ start
+  pub ticker : t ≡ ticker_at tick start later
 
-pub within-of : {P : Type 0} (T : P → List Event → List Datagram → P → Type 0) (first p q : P) (start : ℕ) (t : Ticker) (made : ℕ) (a b c : Outside)
-    → IsAt T first p start t made a b → TakesItem T p q b c → IsWithin T first q start t made a c
-within-of T first p q start t made a b c at taken = record {
+pub within-of : {P : Type 0} (T : Turned P) (first p q : P) (start tick : ℕ) (t : Ticker) (made : ℕ) (a b c : Ends) (item : Item)
+    → IsAt T first p start tick t made a b → Makes (Turns T p q (Came (event_of item) ∷ [])) b c (item ∷ []) [] → IsWithin T first q start tick t made a c
+within-of T first p q start tick t made a b c item at taken = record {
   items = at.items;
-  item = taken.item;
+  item = item;
   later = at.later;
-  sends = at.sends ++ taken.sends;
-  passed = passes-item a b c at.items taken.item (start ∷ at.later) at.sends taken.sends at.passed taken.passed;
-  turned = taken.turned first (heard t.tick_ms t.start 0 at.items at.later) at.sends at.turned;
+  given = Makes-on T first p q (came (events tick at.items (start ∷ at.later))) (Came (event_of item) ∷ []) (came (events tick (at.items ++ item ∷ []) (start ∷ at.later)))
+      a b c at.items (item ∷ []) (at.items ++ item ∷ []) (start ∷ at.later) [] (start ∷ at.later)
+      (came-item tick start at.items at.later item at.each) refl (append-nil (start ∷ at.later)) at.given taken;
   made_items = at.made_items;
   each = at.each;
-  ticks = at.ticks;
-  began = at.began;
+  ticker = at.ticker;
 }
 
-one-more : (xs : List Item) (x : Item) → length (xs ++ x ∷ []) ≡ length xs + 1
-one-more xs x = omega (arith, length-append xs (x ∷ []))
-
-one-more-moment : (xs : List ℕ) (x : ℕ) → length (xs ++ x ∷ []) ≡ length xs + 1
-one-more-moment xs x = omega (arith, length-append xs (x ∷ []))
-
--- the events of a whole round more are those before the clock is asked, and the tick that is due
-round-events : (t : Ticker) (items : List Item) (later : List ℕ) (item : Item) (moment : ℕ)
-    → length later ≡ length items → t.reached ≡ reached t.tick_ms t.start 0 later
-    → (heard t.tick_ms t.start 0 items later ++ event_of item ∷ []) ++ due_at t moment ≡ heard t.tick_ms t.start 0 (items ++ item ∷ []) (later ++ moment ∷ [])
-round-events t items later item moment each ticks =
-    append_assoc (heard t.tick_ms t.start 0 items later) (event_of item ∷ []) (due_at t moment)
-    ∙ ap (λ (n : ℕ). heard t.tick_ms t.start 0 items later ++ event_of item ∷ due n (elapsed t.tick_ms t.start moment)) ticks
-    ∙ sym (heard-round t.tick_ms t.start 0 items later item moment each)
-
-pub at-next : {P : Type 0} (T : P → List Event → List Datagram → P → Type 0) (first p q : P) (start : ℕ) (t u : Ticker) (made : ℕ) (a b c : Outside)
-    → IsWithin T first p start t made a b → AsksClock T p q t u b c → IsAt T first q start u (made + 1) a c
-at-next T first p q start t u made a b c within asked =
-    let all = round-events t within.items within.later within.item asked.moment within.each within.ticks in
-    let turned = asked.turned first (heard t.tick_ms t.start 0 within.items within.later ++ event_of within.item ∷ []) within.sends within.turned in
-    let next : IsAt T first q start (ticked t asked.moment) (made + 1) a c = record {
-      items = within.items ++ within.item ∷ [];
-      later = within.later ++ asked.moment ∷ [];
-      sends = within.sends ++ asked.sends;
-      passed = passes-moment a b c (within.items ++ within.item ∷ []) start within.later asked.moment within.sends asked.sends within.passed asked.passed;
-      turned = subst (λ (es : List Event). T first es (within.sends ++ asked.sends) q) all turned;
-      made_items = one-more within.items within.item ∙ ap (λ (n : ℕ). n + 1) within.made_items;
-      each = one-more-moment within.later asked.moment ∙ ap (λ (n : ℕ). n + 1) within.each ∙ sym (one-more within.items within.item);
-      ticks = ap (λ (n : ℕ). max n (elapsed t.tick_ms t.start asked.moment)) within.ticks ∙ sym (reached-more t.tick_ms t.start 0 within.later asked.moment);
-      began = within.began;
-    } in
-    subst (λ (v : Ticker). IsAt T first q start v (made + 1) a c) (sym asked.ticker) next
-
--- the turns of a loop that goes on, as it may go on or may have ended
-abbrev pub Whole : {P : Type 0} → (P → List Event → List Datagram → P → Type 0) → P → P → List Event → List Datagram → Type 0
-Whole T first now events sent = T first events sent now
-
-abbrev pub Some' : {P : Type 0} → (P → List Event → List Datagram → P → Type 0) → P → List Event → List Datagram → Type 0
-Some' {P} T first events sent = (last : P) × T first events sent last
-
-at-events : {P : Type 0} (T : P → List Event → List Datagram → P → Type 0) (first now : P) (start tick : ℕ) (t : Ticker) (items : List Item) (later : List ℕ) (sends : List Datagram)
-    → t.tick_ms ≡ tick → t.start ≡ start → T first (heard t.tick_ms t.start 0 items later) sends now → T first (events tick items (start ∷ later)) sends now
-at-events T first now start tick t items later sends ms began turned =
-    subst (λ (n : ℕ). T first (heard tick n 0 items later) sends now) began (subst (λ (n : ℕ). T first (heard n t.start 0 items later) sends now) ms turned)
-
--- the events of a half round more, with a loop's own numbers
-item-events : (start tick : ℕ) (t : Ticker) (items : List Item) (later : List ℕ) (item : Item) → length later ≡ length items
-    → t.tick_ms ≡ tick → t.start ≡ start
-    → events tick (items ++ item ∷ []) (start ∷ later) ≡ events tick items (start ∷ later) ++ event_of item ∷ []
-item-events start tick t items later item each ms began = heard-item tick start 0 items later item each
-
--- the events of the first half of a round
-half-events : {P : Type 0} (T : P → List Event → List Datagram → P → Type 0) (first now : P) (start tick : ℕ) (t : Ticker) (items : List Item) (later : List ℕ) (item : Item) (sends : List Datagram)
-    → length later ≡ length items → t.tick_ms ≡ tick → t.start ≡ start → T first (heard t.tick_ms t.start 0 items later ++ event_of item ∷ []) sends now
-    → T first (events tick (items ++ item ∷ []) (start ∷ later)) sends now
-half-events T first now start tick t items later item sends each ms began turned =
-    at-events T first now start tick t (items ++ item ∷ []) later sends ms began
-    (subst (λ (es : List Event). T first es sends now) (sym (heard-item t.tick_ms t.start 0 items later item each)) turned)
-
--- the tick that is due is the last event
-tick-events : (start tick : ℕ) (t : Ticker) (items : List Item) (later : List ℕ) (item : Item) (moment : ℕ)
-    → length later ≡ length items → t.reached ≡ reached t.tick_ms t.start 0 later → t.tick_ms ≡ tick → t.start ≡ start → due_at t moment ≡ Tick ∷ []
-    → events tick (items ++ item ∷ []) (start ∷ (later ++ moment ∷ [])) ≡ events tick (items ++ item ∷ []) (start ∷ later) ++ Tick ∷ []
-tick-events start tick t items later item moment each ticks ms began is_due =
-    let own : heard t.tick_ms t.start 0 (items ++ item ∷ []) (later ++ moment ∷ []) ≡ heard t.tick_ms t.start 0 (items ++ item ∷ []) later ++ Tick ∷ []
-    = sym (round-events t items later item moment each ticks)
-    ∙ ap (λ (es : List Event). (heard t.tick_ms t.start 0 items later ++ event_of item ∷ []) ++ es) is_due
-    ∙ ap (λ (es : List Event). es ++ Tick ∷ []) (sym (heard-item t.tick_ms t.start 0 items later item each)) in
-    subst (λ (n : ℕ). heard tick n 0 (items ++ item ∷ []) (later ++ moment ∷ []) ≡ heard tick n 0 (items ++ item ∷ []) later ++ Tick ∷ []) began
-    (subst (λ (n : ℕ). heard n t.start 0 (items ++ item ∷ []) (later ++ moment ∷ []) ≡ heard n t.start 0 (items ++ item ∷ []) later ++ Tick ∷ []) ms own)
-
-asked-item : (item : Item) (items : List Item) (moments : List ℕ) → NotAskedBehindLast items moments → AskedBefore (event_of item) items moments
-asked-item (ADatagram d) items moments same = same
-asked-item NoDatagram items moments same = same
-
--- the clock failed at once
-pub ended-start : {P : Type 0} (T : P → List Event → List Datagram → P → Type 0) (first now : P) (pace : Pace) (old new : Outside)
-    → T first [] [] first → Passes old new [] [] []
-    → Serves (Whole T first now) (Some' T first) pace old new ClockFault
-ended-start T first now pace old new begins passed = record {
-  items = [];
-  moments = [];
-  within = omega arith;
-  ended = (refl, record { sends = []; turned = (first, begins); passed = passed });
-}
-
--- the link ended between two rounds
-pub ended-done : {P : Type 0} (T : P → List Event → List Datagram → P → Type 0) (first p : P) (start : ℕ) (t : Ticker) (made : ℕ) (pace : Pace) (a b c : Outside)
-    → IsAt T first p start t made a b → t.tick_ms ≡ pace.tick_ms → made < pace.turns → Passes b c [] [] [] → RanDry b.left c.left
-    → Serves (Whole T first p) (Some' T first) pace a c Done
-ended-done T first p start t made pace a b c at ms more none dry = record {
-  items = at.items;
-  moments = start ∷ at.later;
-  within = omega (arith, at.made_items, more);
-  ended = (
+pub at-next : {P : Type 0} (T : Turned P) (first p q : P) (start tick : ℕ) (t u : Ticker) (made : ℕ) (a b c : Ends)
+    → IsWithin T first p start tick t made a b → AsksClock T p q t u b c → IsAt T first q start tick u (made + 1) a c
+at-next T first p q start tick t u made a b c w asked =
+    let all = w.items ++ w.item ∷ [] in
     record {
-      asked = omega (arith, at.each);
-      within = omega (arith, at.made_items, more);
-      sent = record {
-        sends = at.sends;
-        turned = at-events T first p start pace.tick_ms t at.items at.later at.sends ms at.began at.turned;
-        passed = passes-on a b c at.items (start ∷ at.later) at.sends at.passed none;
-      };
-    },
-    dry-from a.left b.left c.left at.items at.passed.took dry,
-  );
-}
-
--- all receives were made
-pub ended-turns : {P : Type 0} (T : P → List Event → List Datagram → P → Type 0) (first p : P) (start : ℕ) (t : Ticker) (made : ℕ) (pace : Pace) (a b : Outside)
-    → IsAt T first p start t made a b → t.tick_ms ≡ pace.tick_ms → made ≡ pace.turns
-    → Serves (Whole T first p) (Some' T first) pace a b TurnsSpent
-ended-turns T first p start t made pace a b at ms all = record {
-  items = at.items;
-  moments = start ∷ at.later;
-  within = omega (arith, at.made_items, all);
-  ended = (
-    omega (arith, at.each),
-    at.made_items ∙ all,
-    record {
-      sends = at.sends;
-      turned = at-events T first p start pace.tick_ms t at.items at.later at.sends ms at.began at.turned;
-      passed = at.passed;
-    },
-  );
-}
-
--- nothing was received, and all turns are there
-between : {P : Type 0} (T : P → List Event → List Datagram → P → Type 0) (first p : P) (start : ℕ) (t : Ticker) (made : ℕ) (pace : Pace) (a b c : Outside)
-    → (at : IsAt T first p start t made a b) → t.tick_ms ≡ pace.tick_ms → made < pace.turns → Passes b c [] [] []
-    → EndsBetween (Some' T first) pace a c at.items (start ∷ at.later)
-between T first p start t made pace a b c at ms more none = record {
-  asked = omega (arith, at.each);
-  within = omega (arith, at.made_items, more);
-  sent = record {
-    sends = at.sends;
-    turned = (p, at-events T first p start pace.tick_ms t at.items at.later at.sends ms at.began at.turned);
-    passed = passes-on a b c at.items (start ∷ at.later) at.sends at.passed none;
-  };
-}
-
--- the first half of a round wasn't made whole
-pub ended-item : {P : Type 0} (T : P → List Event → List Datagram → P → Type 0) (first now p q : P) (start : ℕ) (t : Ticker) (made : ℕ) (pace : Pace) (a b c : Outside) (status : Status)
-    → IsAt T first p start t made a b → t.tick_ms ≡ pace.tick_ms → made < pace.turns → StopsItem T p q b c status
-    → Serves (Whole T first now) (Some' T first) pace a c status
-ended-item T first now p q start t made pace a b c LinkFault at ms more (inl none) = record {
-  items = at.items;
-  moments = start ∷ at.later;
-  within = omega (arith, at.made_items, more);
-  ended = inl (between T first p start t made pace a b c at ms more none);
-}
-ended-item T first now p q start t made pace a b c LinkFault at ms more (inr cut) =
-    let before = at-events T first p start pace.tick_ms t at.items at.later at.sends ms at.began at.turned in
-    let all = item-events start pace.tick_ms t at.items at.later cut.item at.each ms at.began in
-    record {
-      items = at.items ++ cut.item ∷ [];
-      moments = start ∷ at.later;
-      within = omega (arith, at.made_items, more, one-more at.items cut.item);
-      ended = inr (record {
-        before = events pace.tick_ms at.items (start ∷ at.later);
-        event = event_of cut.item;
-        is_last = record { last = all; asked = asked-item cut.item (at.items ++ cut.item ∷ []) (start ∷ at.later) (omega (arith, at.each, one-more at.items cut.item)) };
-        earlier = at.sends;
-        front = cut.front;
-        rest = cut.rest;
-        turned_before = (p, before);
-        turned = (q, subst (λ (es : List Event). T first es (at.sends ++ (cut.front ++ cut.rest)) q) (sym all) (cut.turned first (events pace.tick_ms at.items (start ∷ at.later)) at.sends before));
-        passed = passes-item a b c at.items cut.item (start ∷ at.later) at.sends cut.front at.passed cut.passed;
-      });
+      items = all;
+      later = w.later ++ asked.moment ∷ [];
+      given = Makes-on T first p q (came (events tick all (start ∷ w.later))) (came (due_at t asked.moment)) (came (events tick all (start ∷ (w.later ++ asked.moment ∷ []))))
+          a b c all [] all (start ∷ w.later) (asked.moment ∷ []) (start ∷ (w.later ++ asked.moment ∷ []))
+          (came-moment tick start w.items w.later w.item t asked.moment w.each w.ticker) (append-nil all) refl w.given asked.made;
+      made_items = one-more w.items w.item ∙ ap (λ (n : ℕ). n + 1) w.made_items;
+      each = one-more w.later asked.moment ∙ ap (λ (n : ℕ). n + 1) w.each ∙ sym (one-more w.items w.item);
+      ticker = ticker-more tick start w.later t u asked.moment w.ticker asked.ticker;
     }
-ended-item T first now p q start t made pace a b c Memory at ms more (inl none) = record {
-  items = at.items;
-  moments = start ∷ at.later;
-  within = omega (arith, at.made_items, more);
-  ended = inr (inl (between T first p start t made pace a b c at ms more none));
-}
-ended-item T first now p q start t made pace a b c Memory at ms more (inr lost) =
-    let before = at-events T first p start pace.tick_ms t at.items at.later at.sends ms at.began at.turned in
-    let all = item-events start pace.tick_ms t at.items at.later lost.item at.each ms at.began in
-    record {
-      items = at.items ++ lost.item ∷ [];
-      moments = start ∷ at.later;
-      within = omega (arith, at.made_items, more, one-more at.items lost.item);
-      ended = inr (inr (record {
-        before = events pace.tick_ms at.items (start ∷ at.later);
-        event = event_of lost.item;
-        is_last = record { last = all; asked = asked-item lost.item (at.items ++ lost.item ∷ []) (start ∷ at.later) (omega (arith, at.each, one-more at.items lost.item)) };
-        sent = record {
-          sends = at.sends;
-          turned = (p, before);
-          passed = subst (λ (ds : List Datagram). Passes a c (at.items ++ lost.item ∷ []) (start ∷ at.later) ds) (append-nil at.sends)
-              (passes-item a b c at.items lost.item (start ∷ at.later) at.sends [] at.passed lost.passed);
-        };
-      }));
-    }
-ended-item T first now p q start t made pace a b c _ at ms more stops = absurd stops
-
--- the second half of a round wasn't made whole
-pub ended-tick : {P : Type 0} (T : P → List Event → List Datagram → P → Type 0) (first now p q : P) (start : ℕ) (t : Ticker) (made : ℕ) (pace : Pace) (a b c : Outside) (status : Status)
-    → IsWithin T first p start t made a b → t.tick_ms ≡ pace.tick_ms → made < pace.turns → StopsTick T p q t b c status
-    → Serves (Whole T first now) (Some' T first) pace a c status
-ended-tick T first now p q start t made pace a b c ClockFault w ms more missed = record {
-  items = w.items ++ w.item ∷ [];
-  moments = start ∷ w.later;
-  within = omega (arith, w.made_items, more, one-more w.items w.item);
-  ended = (
-    omega (arith, w.each, one-more w.items w.item),
-    record {
-      sends = w.sends;
-      turned = (p, half-events T first p start pace.tick_ms t w.items w.later w.item w.sends w.each ms w.began w.turned);
-      passed = passes-on a b c (w.items ++ w.item ∷ []) (start ∷ w.later) w.sends w.passed missed.passed;
-    },
-  );
-}
-ended-tick T first now p q start t made pace a b c LinkFault w ms more cut =
-    let all = tick-events start pace.tick_ms t w.items w.later w.item cut.moment w.each w.ticks ms w.began cut.is_due in
-    let before = half-events T first p start pace.tick_ms t w.items w.later w.item w.sends w.each ms w.began w.turned in
-    let upto = events pace.tick_ms (w.items ++ w.item ∷ []) (start ∷ w.later) in
-    record {
-      items = w.items ++ w.item ∷ [];
-      moments = start ∷ (w.later ++ cut.moment ∷ []);
-      within = omega (arith, w.made_items, more, one-more w.items w.item);
-      ended = inr (record {
-        before = upto;
-        event = Tick;
-        is_last = record { last = all; asked = omega (arith, w.each, one-more w.items w.item, one-more-moment w.later cut.moment) };
-        earlier = w.sends;
-        front = cut.front;
-        rest = cut.rest;
-        turned_before = (p, before);
-        turned = (q, subst (λ (es : List Event). T first es (w.sends ++ (cut.front ++ cut.rest)) q) (sym all) (cut.turned first upto w.sends before));
-        passed = passes-moment a b c (w.items ++ w.item ∷ []) start w.later cut.moment w.sends cut.front w.passed cut.passed;
-      });
-    }
-ended-tick T first now p q start t made pace a b c Memory w ms more lost =
-    let all = tick-events start pace.tick_ms t w.items w.later w.item lost.moment w.each w.ticks ms w.began lost.is_due in
-    let before = half-events T first p start pace.tick_ms t w.items w.later w.item w.sends w.each ms w.began w.turned in
-    record {
-      items = w.items ++ w.item ∷ [];
-      moments = start ∷ (w.later ++ lost.moment ∷ []);
-      within = omega (arith, w.made_items, more, one-more w.items w.item);
-      ended = inr (inr (record {
-        before = events pace.tick_ms (w.items ++ w.item ∷ []) (start ∷ w.later);
-        event = Tick;
-        is_last = record { last = all; asked = omega (arith, w.each, one-more w.items w.item, one-more-moment w.later lost.moment) };
-        sent = record {
-          sends = w.sends;
-          turned = (p, before);
-          passed = subst (λ (ds : List Datagram). Passes a c (w.items ++ w.item ∷ []) (start ∷ (w.later ++ lost.moment ∷ [])) ds) (append-nil w.sends)
-              (passes-moment a b c (w.items ++ w.item ∷ []) start w.later lost.moment w.sends [] w.passed lost.passed);
-        };
-      }));
-    }
-ended-tick T first now p q start t made pace a b c _ w ms more stops = absurd stops

@@ -1,152 +1,201 @@
--- What follows of a loop that ran: its party sends by each rule that follows from its own, and what passed may be told otherwise.
-use Rattle.std.proofs.Common.{inl, inr, ℕ, List, [], ◌++◌, Option, refl, arith}
+-- What follows of a loop that ran: its party keeps each rule that follows from its own, and what passed may be told otherwise.
+use Rattle.std.proofs.Common.{◌≡◌, inl, inr, ℕ, List, [], ◌++◌, Option, Some, None, refl, sym, ap, ◌∙◌, subst, arith}
 use Rattle.r2_base.specs.declared.datagram.Datagram.{Datagram}
-use Rattle.r2_base.specs.declared.event.Event.{Event}
 use Rattle.r2_link.specs.declared.lane.Item.{Item}
-use Rattle.r2_link.specs.Told.{HasNone, Joins}
+use Rattle.r2_link.specs.Links.{LinkTold, Rejoins, Splits}
+use Rattle.r2_link.specs.Told.{Gains, IsKept, Joins, RanDry}
+use Rattle.r2_link.proofs.Told.{Gains-joined, Gains-nil}
+use Rattle.hc_log.specs.declared.record.Record.{Record}
+use Rattle.r2_link.specs.Faults.{Rose, calm}
+use Rattle.cmd_status.specs.Causes.{IsCaused}
 use Rattle.cmd_status.specs.declared.status.Status.{Status}
-use Rattle.cmd_status.specs.declared.status.Status.TheVariants.{Done, Memory, LinkFault, ClockFault, TurnsSpent}
+use Rattle.cmd_status.specs.declared.status.Status.TheVariants.{Done, Memory, LinkFault, DiskFault, ClockFault, TurnsSpent}
 use Rattle.cmd_loop.specs.declared.pace.Pace.{Pace}
+use Rattle.cmd_loop.specs.Ends.{Ends, Passes, passing}
 use Rattle.cmd_loop.specs.Events.{events}
-use Rattle.cmd_loop.specs.Outside.{Outside, Passes, RanDry}
-use Rattle.cmd_loop.specs.Loop.{EndsBetween, Ended, LosesTurn, SendsAll, SendsPart, Serves}
-use Rattle.cmd_loop.proofs.Told.{Gains-joined, Passes-none, Passes-trans, dry-from}
+use Rattle.cmd_loop.specs.Happenings.{Happening, came, happenings}
+use Rattle.cmd_loop.specs.Loop.{EndsBetween, Ended, GivesPart, IsServed, LosesTurn, Rule, Serves}
+use Rattle.cmd_loop.specs.Round.{Makes}
+use Rattle.cmd_loop.proofs.Passing.{Passes-nothing}
 
-abbrev Rule : Type 1
-Rule = List Event → List Datagram → Type 0
+-- what one rule gives the other one gives too
+abbrev pub Gives : Rule → Rule → Type 0
+Gives S S' = (happened : List Happening) (stored : List Record) (sends : List Datagram) → S happened stored sends → S' happened stored sends
 
-abbrev Follows : Rule → Rule → Type 0
-Follows S S' = (happened : List Event) (sends : List Datagram) → S happened sends → S' happened sends
+module _ (S S' : Rule) (on : Gives S S') (a b : Ends) (items : List Item) (moments : List ℕ) where
+  all-weaker : (made : List Happening) → Makes (S made) a b items moments → Makes (S' made) a b items moments
+  all-weaker made all = record { stored = all.stored; sends = all.sends; right = on made all.stored all.sends all.right; passed = all.passed }
 
-all-weaker : (S S' : Rule) → Follows S S' → (made : List Event) (a b : Outside) (items : List Item) (moments : List ℕ)
-    → SendsAll S made a b items moments → SendsAll S' made a b items moments
-all-weaker S S' on made a b items moments all = record { sends = all.sends; turned = on made all.sends all.turned; passed = all.passed }
+  part-weaker : (made : List Happening) → GivesPart S made a b items moments → GivesPart S' made a b items moments
+  part-weaker made part = record {
+    before = part.before;
+    last = part.last;
+    is_last = part.is_last;
+    records = part.records;
+    earlier = part.earlier;
+    stored = part.stored;
+    sent = part.sent;
+    unsent = part.unsent;
+    right_before = on part.before part.records part.earlier part.right_before;
+    right = on made (part.records ++ part.stored) (part.earlier ++ (part.sent ++ part.unsent)) part.right;
+    passed = part.passed;
+  }
 
-part-weaker : (S S' : Rule) → Follows S S' → (made : List Event) (a b : Outside) (items : List Item) (moments : List ℕ)
-    → SendsPart S made a b items moments → SendsPart S' made a b items moments
-part-weaker S S' on made a b items moments part = record {
-  before = part.before;
-  event = part.event;
-  is_last = part.is_last;
-  earlier = part.earlier;
-  front = part.front;
-  rest = part.rest;
-  turned_before = on part.before part.earlier part.turned_before;
-  turned = on made (part.earlier ++ (part.front ++ part.rest)) part.turned;
-  passed = part.passed;
-}
+  lost-weaker : (made : List Happening) → LosesTurn S made a b items moments → LosesTurn S' made a b items moments
+  lost-weaker made lost = record { before = lost.before; last = lost.last; is_last = lost.is_last; made = all-weaker lost.before lost.made }
 
-lost-weaker : (S S' : Rule) → Follows S S' → (made : List Event) (a b : Outside) (items : List Item) (moments : List ℕ)
-    → LosesTurn S made a b items moments → LosesTurn S' made a b items moments
-lost-weaker S S' on made a b items moments lost =
-    record { before = lost.before; event = lost.event; is_last = lost.is_last; sent = all-weaker S S' on lost.before a b items moments lost.sent }
+  between-weaker : (pace : Pace) → EndsBetween S pace a b items moments → EndsBetween S' pace a b items moments
+  between-weaker pace ends = record { asked = ends.asked; within = ends.within; made = all-weaker (came (events pace.tick_ms items moments)) ends.made }
 
-between-weaker : (S S' : Rule) → Follows S S' → (pace : Pace) (a b : Outside) (items : List Item) (moments : List ℕ)
-    → EndsBetween S pace a b items moments → EndsBetween S' pace a b items moments
-between-weaker S S' on pace a b items moments ends =
-    record { asked = ends.asked; within = ends.within; sent = all-weaker S S' on (events pace.tick_ms items moments) a b items moments ends.sent }
+module _ (D D' W W' S S' : Rule) (done : Gives D D') (whole : Gives W W') (on : Gives S S') (pace : Pace) (a b : Ends) where
+  ended-weaker : (items : List Item) (moments : List ℕ) (n : ℕ) (status : Status) → Ended D W S pace a b items moments n status → Ended D' W' S' pace a b items moments n status
+  ended-weaker items moments n Done ended = (ended.0, all-weaker D D' done a b items moments (happenings pace.tick_ms items moments n) ended.1)
+  ended-weaker items moments n TurnsSpent ended =
+      (ended.0, ended.1, ended.2, all-weaker W W' whole a b items moments (came (events pace.tick_ms items moments)) ended.3)
+  ended-weaker items moments n ClockFault ended = (ended.0, ended.1, all-weaker S S' on a b items moments (came (events pace.tick_ms items moments)) ended.2)
+  ended-weaker items moments n LinkFault (inl ends) = inl (ends.0, between-weaker S S' on a b items moments pace ends.1)
+  ended-weaker items moments n LinkFault (inr part) = inr (part-weaker S S' on a b items moments (happenings pace.tick_ms items moments n) part)
+  ended-weaker items moments n DiskFault ended = (ended.0, lost-weaker S S' on a b items moments (came (events pace.tick_ms items moments)) ended.1)
+  ended-weaker items moments n Memory (inl none) = inl none
+  ended-weaker items moments n Memory (inr (inl ends)) = inr (inl (ends.0, between-weaker S S' on a b items moments pace ends.1))
+  ended-weaker items moments n Memory (inr (inr lost)) = inr (inr (lost-weaker S S' on a b items moments (happenings pace.tick_ms items moments n) lost))
+  ended-weaker items moments n _ ended = absurd ended
 
-ended-weaker : (W W' S S' : Rule) → Follows W W' → Follows S S' → (pace : Pace) (a b : Outside) (items : List Item) (moments : List ℕ) (status : Status)
-    → Ended W S pace a b items moments status → Ended W' S' pace a b items moments status
-ended-weaker W W' S S' whole on pace a b items moments Done ended = (between-weaker W W' whole pace a b items moments ended.0, ended.1)
-ended-weaker W W' S S' whole on pace a b items moments TurnsSpent ended =
-    (ended.0, ended.1, all-weaker W W' whole (events pace.tick_ms items moments) a b items moments ended.2)
-ended-weaker W W' S S' whole on pace a b items moments ClockFault ended =
-    (ended.0, all-weaker S S' on (events pace.tick_ms items moments) a b items moments ended.1)
-ended-weaker W W' S S' whole on pace a b items moments LinkFault (inl ends) = inl (between-weaker S S' on pace a b items moments ends)
-ended-weaker W W' S S' whole on pace a b items moments LinkFault (inr part) = inr (part-weaker S S' on (events pace.tick_ms items moments) a b items moments part)
-ended-weaker W W' S S' whole on pace a b items moments Memory (inl none) = inl none
-ended-weaker W W' S S' whole on pace a b items moments Memory (inr (inl ends)) = inr (inl (between-weaker S S' on pace a b items moments ends))
-ended-weaker W W' S S' whole on pace a b items moments Memory (inr (inr lost)) =
-    inr (inr (lost-weaker S S' on (events pace.tick_ms items moments) a b items moments lost))
-ended-weaker W W' S S' whole on pace a b items moments _ ended = absurd ended
-
-pub serves-weaker : (W W' S S' : Rule) → Follows W W' → Follows S S' → (pace : Pace) (a b : Outside) (status : Status)
-    → Serves W S pace a b status → Serves W' S' pace a b status
-serves-weaker W W' S S' whole on pace a b status serves = record {
-  items = serves.items;
-  moments = serves.moments;
-  within = serves.within;
-  ended = ended-weaker W W' S S' whole on pace a b serves.items serves.moments status serves.ended;
-}
+  pub serves-weaker : (status : Status) → Serves D W S pace a b status → Serves D' W' S' pace a b status
+  serves-weaker status serves = record {
+    items = serves.items;
+    moments = serves.moments;
+    closings = serves.closings;
+    within = serves.within;
+    found_end = serves.found_end;
+    ended = ended-weaker serves.items serves.moments serves.closings status serves.ended;
+  }
 
 -- memory ran out before anything was taken in
-pub serves-nothing : (W S : Rule) (pace : Pace) (a : Outside) → Serves W S pace a a Memory
-serves-nothing W S pace a = record { items = []; moments = []; within = omega arith; ended = inl (Passes-none a, refl, refl) }
-
--- what passes from one moment to another passes from a third to a fourth too
-record Carries (a b c d : Outside) : Type 0 where
-  passes : (items : List Item) (moments : List ℕ) (sends : List Datagram) → Passes a b items moments sends → Passes c d items moments sends
-  dry : RanDry a.left b.left → RanDry c.left d.left
-
-all-over : (S : Rule) (made : List Event) (a b c d : Outside) (items : List Item) (moments : List ℕ)
-    → Carries a b c d → SendsAll S made a b items moments → SendsAll S made c d items moments
-all-over S made a b c d items moments over all =
-    record { sends = all.sends; turned = all.turned; passed = over.passes items moments all.sends all.passed }
-
-between-over : (S : Rule) (pace : Pace) (a b c d : Outside) (items : List Item) (moments : List ℕ)
-    → Carries a b c d → EndsBetween S pace a b items moments → EndsBetween S pace c d items moments
-between-over S pace a b c d items moments over ends =
-    record { asked = ends.asked; within = ends.within; sent = all-over S (events pace.tick_ms items moments) a b c d items moments over ends.sent }
-
-part-over : (S : Rule) (made : List Event) (a b c d : Outside) (items : List Item) (moments : List ℕ)
-    → Carries a b c d → SendsPart S made a b items moments → SendsPart S made c d items moments
-part-over S made a b c d items moments over part = record {
-  before = part.before;
-  event = part.event;
-  is_last = part.is_last;
-  earlier = part.earlier;
-  front = part.front;
-  rest = part.rest;
-  turned_before = part.turned_before;
-  turned = part.turned;
-  passed = over.passes items moments (part.earlier ++ part.front) part.passed;
+pub serves-nothing : (D W S : Rule) (pace : Pace) (a : Ends) → Serves D W S pace a a Memory
+serves-nothing D W S pace a = record {
+  items = [];
+  moments = [];
+  closings = 0;
+  within = omega arith;
+  found_end = λ some. absurd (omega (arith, some));
+  ended = inl (Passes-nothing a, refl, refl, refl);
 }
 
-lost-over : (S : Rule) (made : List Event) (a b c d : Outside) (items : List Item) (moments : List ℕ)
-    → Carries a b c d → LosesTurn S made a b items moments → LosesTurn S made c d items moments
-lost-over S made a b c d items moments over lost =
-    record { before = lost.before; event = lost.event; is_last = lost.is_last; sent = all-over S lost.before a b c d items moments over lost.sent }
+-- what passes from one moment to another passes from a third to a fourth too, where what was stored is of that kind
+pub record Carries (Q : List Record → Type 0) (a b c d : Ends) : Type 0 where
+  pub passes : (items : List Item) (moments : List ℕ) (stored : List Record) (sends : List Datagram)
+      → Q stored → Passes a b (passing items moments stored sends) → Passes c d (passing items moments stored sends)
+  pub dry : RanDry a.link.left b.link.left → RanDry c.link.left d.link.left
 
-ended-over : (W S : Rule) (pace : Pace) (a b c d : Outside) (items : List Item) (moments : List ℕ) (status : Status)
-    → Carries a b c d → Ended W S pace a b items moments status → Ended W S pace c d items moments status
-ended-over W S pace a b c d items moments Done over ended = (between-over W pace a b c d items moments over ended.0, over.dry ended.1)
-ended-over W S pace a b c d items moments TurnsSpent over ended =
-    (ended.0, ended.1, all-over W (events pace.tick_ms items moments) a b c d items moments over ended.2)
-ended-over W S pace a b c d items moments ClockFault over ended =
-    (ended.0, all-over S (events pace.tick_ms items moments) a b c d items moments over ended.1)
-ended-over W S pace a b c d items moments LinkFault over (inl ends) = inl (between-over S pace a b c d items moments over ends)
-ended-over W S pace a b c d items moments LinkFault over (inr part) = inr (part-over S (events pace.tick_ms items moments) a b c d items moments over part)
-ended-over W S pace a b c d items moments Memory over (inl none) = inl (over.passes [] [] [] none.0, none.1, none.2)
-ended-over W S pace a b c d items moments Memory over (inr (inl ends)) = inr (inl (between-over S pace a b c d items moments over ends))
-ended-over W S pace a b c d items moments Memory over (inr (inr lost)) =
-    inr (inr (lost-over S (events pace.tick_ms items moments) a b c d items moments over lost))
-ended-over W S pace a b c d items moments _ over ended = absurd ended
+-- what is stored by a rule is of that kind
+abbrev pub StoresOnly : (List Record → Type 0) → Rule → Type 0
+StoresOnly Q S = (happened : List Happening) (stored : List Record) (sends : List Datagram) → S happened stored sends → Q stored
 
-serves-over : (W S : Rule) (pace : Pace) (a b c d : Outside) (status : Status) → Carries a b c d → Serves W S pace a b status → Serves W S pace c d status
-serves-over W S pace a b c d status over serves = record {
-  items = serves.items;
-  moments = serves.moments;
-  within = serves.within;
-  ended = ended-over W S pace a b c d serves.items serves.moments status over serves.ended;
-}
+module _ (Q : List Record → Type 0) (S : Rule) (only : StoresOnly Q S) (a b c d : Ends) (over : Carries Q a b c d) (items : List Item) (moments : List ℕ) where
+  all-over : (made : List Happening) → Makes (S made) a b items moments → Makes (S made) c d items moments
+  all-over made all = record { stored = all.stored; sends = all.sends; right = all.right; passed = over.passes items moments all.stored all.sends (only made all.stored all.sends all.right) all.passed }
 
--- what passed before a loop without an item, a moment or a datagram, passed in it
-pub serves-from : (W S : Rule) (pace : Pace) (a b c : Outside) (status : Status) → Passes a b [] [] [] → Serves W S pace b c status → Serves W S pace a c status
-serves-from W S pace a b c status before serves =
-    serves-over W S pace b c a c status
+  part-over : (made : List Happening) → GivesPart S made a b items moments → GivesPart S made c d items moments
+  part-over made part = record {
+    before = part.before;
+    last = part.last;
+    is_last = part.is_last;
+    records = part.records;
+    earlier = part.earlier;
+    stored = part.stored;
+    sent = part.sent;
+    unsent = part.unsent;
+    right_before = part.right_before;
+    right = part.right;
+    passed = over.passes items moments (part.records ++ part.stored) (part.earlier ++ part.sent)
+        (only made (part.records ++ part.stored) (part.earlier ++ (part.sent ++ part.unsent)) part.right) part.passed;
+  }
+
+  lost-over : (made : List Happening) → LosesTurn S made a b items moments → LosesTurn S made c d items moments
+  lost-over made lost = record { before = lost.before; last = lost.last; is_last = lost.is_last; made = all-over lost.before lost.made }
+
+  between-over : (pace : Pace) → EndsBetween S pace a b items moments → EndsBetween S pace c d items moments
+  between-over pace ends = record { asked = ends.asked; within = ends.within; made = all-over (came (events pace.tick_ms items moments)) ends.made }
+
+module _ (Q : List Record → Type 0) (none : Q []) (D W S : Rule) (only_done : StoresOnly Q D) (only_whole : StoresOnly Q W) (only : StoresOnly Q S) (pace : Pace) (a b c d : Ends) (over : Carries Q a b c d) where
+  ended-over : (items : List Item) (moments : List ℕ) (n : ℕ) (status : Status) → Ended D W S pace a b items moments n status → Ended D W S pace c d items moments n status
+  ended-over items moments n Done ended = (ended.0, all-over Q D only_done a b c d over items moments (happenings pace.tick_ms items moments n) ended.1)
+  ended-over items moments n TurnsSpent ended =
+      (ended.0, ended.1, ended.2, all-over Q W only_whole a b c d over items moments (came (events pace.tick_ms items moments)) ended.3)
+  ended-over items moments n ClockFault ended = (ended.0, ended.1, all-over Q S only a b c d over items moments (came (events pace.tick_ms items moments)) ended.2)
+  ended-over items moments n LinkFault (inl ends) = inl (ends.0, between-over Q S only a b c d over items moments pace ends.1)
+  ended-over items moments n LinkFault (inr part) = inr (part-over Q S only a b c d over items moments (happenings pace.tick_ms items moments n) part)
+  ended-over items moments n DiskFault ended = (ended.0, lost-over Q S only a b c d over items moments (came (events pace.tick_ms items moments)) ended.1)
+  ended-over items moments n Memory (inl nothing) = inl (over.passes [] [] [] [] none nothing.0, nothing.1, nothing.2, nothing.3)
+  ended-over items moments n Memory (inr (inl ends)) = inr (inl (ends.0, between-over Q S only a b c d over items moments pace ends.1))
+  ended-over items moments n Memory (inr (inr lost)) = inr (inr (lost-over Q S only a b c d over items moments (happenings pace.tick_ms items moments n) lost))
+  ended-over items moments n _ ended = absurd ended
+
+  pub serves-over : (status : Status) → Serves D W S pace a b status → Serves D W S pace c d status
+  serves-over status serves = record {
+    items = serves.items;
+    moments = serves.moments;
+    closings = serves.closings;
+    within = serves.within;
+    found_end = λ some. let found = serves.found_end some in record { asked = found.asked; within = found.within; dry = over.dry found.dry };
+    ended = ended-over serves.items serves.moments serves.closings status serves.ended;
+  }
+
+kept-Joins : {A : Type 0} (a b c m : Option (List A)) → IsKept a b → Joins b c m → Joins a c m
+kept-Joins a b c None kept joined = tt
+kept-Joins None b c (Some more) kept joined = tt
+kept-Joins (Some x) None c (Some more) kept joined = absurd kept
+kept-Joins (Some x) (Some y) None (Some more) kept joined = absurd joined
+kept-Joins (Some x) (Some y) (Some z) (Some more) kept joined = joined ∙ ap (λ l. l ++ more) kept
+
+-- a loop on a twin is one on the link that the twin was split from and came back to, as if the link had the items of the twin's lane:
+-- what the twin sent, the link sent
+pub serves-rejoined : (D W S : Rule) (pace : Pace) (a b : Ends) (old split new : LinkTold) (status : Status)
+    → Splits old split a.link → Rejoins split new b.link → Serves D W S pace a b status
+    → Serves D W S pace (record a { link = record old { left = a.link.left; lanes = None } }) (record b { link = record new { left = b.link.left; lanes = None } }) status
+serves-rejoined D W S pace a b old split new status splits rejoins serves =
+    serves-over (λ _. Unit {0}) tt D W S (λ happened stored sends right. tt) (λ happened stored sends right. tt) (λ happened stored sends right. tt) pace a b (record a { link = record old { left = a.link.left; lanes = None } }) (record b { link = record new { left = b.link.left; lanes = None } })
     (record {
-      passes = λ items moments sends passed. Passes-trans a b c [] items [] moments [] sends before passed;
-      dry = dry-from a.left b.left c.left [] before.took;
-    }) serves
-
--- a loop on a twin that had sent nothing is one on the link that takes the twin back
-pub serves-joined : (W S : Rule) (pace : Pace) (a b : Outside) (sent sent' : Option (List Datagram)) (status : Status)
-    → HasNone sent a.sent → Joins sent sent' b.sent → Serves W S pace a b status
-    → Serves W S pace (record a { sent = sent }) (record b { sent = sent' }) status
-serves-joined W S pace a b sent sent' status none joined serves =
-    serves-over W S pace a b (record a { sent = sent }) (record b { sent = sent' }) status
-    (record {
-      passes = λ items moments sends passed. record { took = passed.took; told = passed.told; gave = Gains-joined sent a.sent b.sent sent' sends none passed.gave joined };
+      passes = λ items moments stored sends any passed. record {
+        source = passed.source;
+        sink = passed.sink;
+        link = record {
+          took = passed.link.took;
+          gave = Gains-joined old.sent a.link.sent b.link.sent new.sent sends splits.unsent passed.link.gave (kept-Joins old.sent split.sent new.sent b.link.sent splits.sent rejoins.sent);
+          lanes = tt;
+          me = rejoins.me ∙ splits.me;
+        };
+        clock = passed.clock;
+        journal = passed.journal;
+      };
       dry = λ ran. ran;
-    }) serves
+    }) status serves
+
+-- where nothing is stored, whatever a journal tells is told as before
+pub serves-unstored : (D W S : Rule) → StoresOnly (λ stored. stored ≡ []) D → StoresOnly (λ stored. stored ≡ []) W → StoresOnly (λ stored. stored ≡ []) S
+    → (pace : Pace) (a b : Ends) (told : Option (List Record)) (status : Status)
+    → Serves D W S pace a b status → Serves D W S pace (record a { records = told }) (record b { records = told }) status
+serves-unstored D W S only_done only_whole only pace a b told status serves =
+    serves-over (λ stored. stored ≡ []) refl D W S only_done only_whole only pace a b (record a { records = told }) (record b { records = told })
+    (record {
+      passes = λ items moments stored sends none passed. record {
+        source = passed.source;
+        sink = passed.sink;
+        link = passed.link;
+        clock = passed.clock;
+        journal = subst (Gains told told) (sym none) (Gains-nil told);
+      };
+      dry = λ ran. ran;
+    }) status serves
+
+-- a loop that stores nothing is served where neither its link nor its clock failed
+pub serves-calm : (D W S : Rule) (pace : Pace) (a b : Ends) (l l' c c' : ℕ) (status : Status) → Serves D W S pace a b status
+    → IsCaused (record calm { link = l; clock = c }) (record calm { link = l'; clock = c' }) status → (Rose l l' → ⊥) → (Rose c c' → ⊥) → IsServed status
+serves-calm D W S pace a b l l' c c' Done serves caused link clock = tt
+serves-calm D W S pace a b l l' c c' TurnsSpent serves caused link clock = tt
+serves-calm D W S pace a b l l' c c' Memory serves caused link clock = tt
+serves-calm D W S pace a b l l' c c' LinkFault serves caused link clock = absurd (link (caused.link refl))
+serves-calm D W S pace a b l l' c c' ClockFault serves caused link clock = absurd (clock (caused.clock refl))
+serves-calm D W S pace a b l l' c c' DiskFault serves caused link clock = absurd (omega (arith, caused.disk refl))
+serves-calm D W S pace a b l l' c c' _ serves caused link clock = absurd serves.ended

@@ -1,7 +1,9 @@
-pub mod Outside
+pub mod Ends
 pub mod Events
+pub mod Happenings
 pub mod Sending
 pub mod Receiving
 pub mod Party
-pub mod Loop
+pub mod Plain
 pub mod Round
+pub mod Loop

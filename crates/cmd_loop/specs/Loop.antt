@@ -1,14 +1,21 @@
--- A loop that serves between a link and a clock: what it took in, what it sent, and why it ended.
+-- A loop that serves between a link, a clock and a journal: what it took in, what it stored and sent, and why it ended.
 use Rattle.std.specs.Prelude.{◌≡◌, ◌⊎◌, ℕ, ◌+◌, ◌<◌, ◌≤◌, List, [], ◌∷◌, ◌++◌, length}
 use Rattle.r2_base.specs.declared.datagram.Datagram.{Datagram}
-use Rattle.r2_base.specs.declared.event.Event.{Event}
 use Rattle.r2_base.specs.declared.event.Event.TheVariants.{Datagram as DatagramEvent, Tick, Quiet}
 use Rattle.r2_link.specs.declared.lane.Item.{Item}
+use Rattle.r2_link.specs.Told.{RanDry}
+use Rattle.hc_log.specs.declared.record.Record.{Record}
 use Rattle.cmd_status.specs.declared.status.Status.{Status}
-use Rattle.cmd_status.specs.declared.status.Status.TheVariants.{Done, Memory, LinkFault, ClockFault, TurnsSpent}
+use Rattle.cmd_status.specs.declared.status.Status.TheVariants.{Done, Memory, LinkFault, DiskFault, ClockFault, TurnsSpent}
 use Rattle.cmd_loop.specs.declared.pace.Pace.{Pace}
+use Rattle.cmd_loop.specs.Ends.{Ends, Passes, nothing, passing}
 use Rattle.cmd_loop.specs.Events.{events}
-use Rattle.cmd_loop.specs.Outside.{Outside, Passes, RanDry}
+use Rattle.cmd_loop.specs.Happenings.{Happening, Came, Closing, came, happenings}
+use Rattle.cmd_loop.specs.Round.{Makes}
+
+-- what a party stores and sends over what happens to it
+abbrev pub Rule : Type 1
+Rule = List Happening → List Record → List Datagram → Type 0
 
 -- the clock was asked for the start, and behind the turn of each item
 abbrev pub AskedBehindEach : List Item → List ℕ → Type 0
@@ -18,71 +25,80 @@ AskedBehindEach items moments = length moments ≡ length items + 1
 abbrev pub NotAskedBehindLast : List Item → List ℕ → Type 0
 NotAskedBehindLast items moments = length moments ≡ length items
 
--- what was asked of the clock when the turn of this event was made: something behind the last item only where that is a tick
-abbrev pub AskedBefore : Event → List Item → List ℕ → Type 0
-AskedBefore Tick items moments = AskedBehindEach items moments
-AskedBefore (DatagramEvent d) items moments = NotAskedBehindLast items moments
-AskedBefore Quiet items moments = NotAskedBehindLast items moments
+-- what was asked of the clock when a turn was made: something behind the last item only where that is of a tick, or after the end
+abbrev pub AskedBefore : Happening → List Item → List ℕ → Type 0
+AskedBefore (Came Tick) items moments = AskedBehindEach items moments
+AskedBefore (Came (DatagramEvent d)) items moments = NotAskedBehindLast items moments
+AskedBefore (Came Quiet) items moments = NotAskedBehindLast items moments
+AskedBefore Closing items moments = AskedBehindEach items moments
 
--- the turns of these events were made, and all that they give was sent
-pub record SendsAll (S : List Event → List Datagram → Type 0) (made : List Event) (old new : Outside) (items : List Item) (moments : List ℕ) : Type 0 where
-  pub sends : List Datagram
-  pub turned : S made sends
-  pub passed : Passes old new items moments sends
+-- one turn is the last of all, and is made with what was asked of the clock by then
+pub record IsLast (items : List Item) (moments : List ℕ) (all before : List Happening) (last : Happening) : Type 0 where
+  pub last_of : all ≡ before ++ last ∷ []
+  pub asked : AskedBefore last items moments
 
--- one event is the last of all, and comes with what was asked of the clock by then
-pub record IsLast (items : List Item) (moments : List ℕ) (all before : List Event) (event : Event) : Type 0 where
-  pub last : all ≡ before ++ event ∷ []
-  pub asked : AskedBefore event items moments
-
--- the turn of the last event was made, and a front of what it gives was sent behind all that the turns before it give
-pub record SendsPart (S : List Event → List Datagram → Type 0) (all : List Event) (old new : Outside) (items : List Item) (moments : List ℕ) : Type 0 where
-  pub before : List Event
-  pub event : Event
-  pub is_last : IsLast items moments all before event
+-- the last turn's record was stored, and a prefix of its datagrams was sent, after all that the turns before it give
+pub record GivesPart (S : Rule) (all : List Happening) (old new : Ends) (items : List Item) (moments : List ℕ) : Type 0 where
+  pub before : List Happening
+  pub last : Happening
+  pub is_last : IsLast items moments all before last
+  pub records : List Record
   pub earlier : List Datagram
-  pub front : List Datagram
-  pub rest : List Datagram
-  pub turned_before : S before earlier
-  pub turned : S all (earlier ++ (front ++ rest))
-  pub passed : Passes old new items moments (earlier ++ front)
+  pub stored : List Record
+  pub sent : List Datagram
+  pub unsent : List Datagram
+  pub right_before : S before records earlier
+  pub right : S all (records ++ stored) (earlier ++ (sent ++ unsent))
+  pub passed : Passes old new (passing items moments (records ++ stored) (earlier ++ sent))
 
--- memory ran out in the turn of the last event, of which nothing was sent
-pub record LosesTurn (S : List Event → List Datagram → Type 0) (all : List Event) (old new : Outside) (items : List Item) (moments : List ℕ) : Type 0 where
-  pub before : List Event
-  pub event : Event
-  pub is_last : IsLast items moments all before event
-  pub sent : SendsAll S before old new items moments
+-- all that the turns before the last one give was stored and sent, and nothing of the last one
+pub record LosesTurn (S : Rule) (all : List Happening) (old new : Ends) (items : List Item) (moments : List ℕ) : Type 0 where
+  pub before : List Happening
+  pub last : Happening
+  pub is_last : IsLast items moments all before last
+  pub made : Makes (S before) old new items moments
 
 -- a further receive, within those that may be made, brought nothing more, and all turns before it are there
-pub record EndsBetween (S : List Event → List Datagram → Type 0) (pace : Pace) (old new : Outside) (items : List Item) (moments : List ℕ) : Type 0 where
+pub record EndsBetween (S : Rule) (pace : Pace) (old new : Ends) (items : List Item) (moments : List ℕ) : Type 0 where
   pub asked : AskedBehindEach items moments
   pub within : length items < pace.turns
-  pub sent : SendsAll S (events pace.tick_ms items moments) old new items moments
+  pub made : Makes (S (came (events pace.tick_ms items moments))) old new items moments
 
--- what a loop took in and sent, by how it ended. W names what is sent over the events of a loop that was ended by the link or by
--- its last turn, and S of one that met a fault or found no memory
-abbrev pub Ended : (List Event → List Datagram → Type 0) → (List Event → List Datagram → Type 0) → Pace → Outside → Outside → List Item → List ℕ → Status → Type 0
-Ended W S pace old new items moments Done = EndsBetween W pace old new items moments × RanDry old.left new.left
-Ended W S pace old new items moments TurnsSpent =
-    AskedBehindEach items moments × (length items ≡ pace.turns) × SendsAll W (events pace.tick_ms items moments) old new items moments
-Ended W S pace old new items moments ClockFault =
-    NotAskedBehindLast items moments × SendsAll S (events pace.tick_ms items moments) old new items moments
-Ended W S pace old new items moments LinkFault =
-    EndsBetween S pace old new items moments ⊎ SendsPart S (events pace.tick_ms items moments) old new items moments
-Ended W S pace old new items moments Memory =
-    (Passes old new [] [] [] × (items ≡ []) × (moments ≡ []))
-    ⊎ (EndsBetween S pace old new items moments ⊎ LosesTurn S (events pace.tick_ms items moments) old new items moments)
-Ended W S pace old new items moments _ = ⊥
+-- a further receive, within those that may be made, found the end of the link, and the clock wasn't asked any more
+pub record FoundEnd (pace : Pace) (old new : Ends) (items : List Item) (moments : List ℕ) : Type 0 where
+  pub asked : AskedBehindEach items moments
+  pub within : length items < pace.turns
+  pub dry : RanDry old.link.left new.link.left
 
--- a loop that ended so, with the items and moments that it took in
-pub record Serves (W S : List Event → List Datagram → Type 0) (pace : Pace) (old new : Outside) (status : Status) : Type 0 where
+-- what a loop took in, stored and sent, by how it ended, with so many turns after the end of its link. D names what is stored and
+-- sent over what happened to a loop that was done, W of one that was ended by its last turn, and S of one that met a fault or found
+-- no memory
+abbrev pub Ended : Rule → Rule → Rule → Pace → Ends → Ends → List Item → List ℕ → ℕ → Status → Type 0
+Ended D W S pace old new items moments closings Done =
+    (1 ≤ closings) × Makes (D (happenings pace.tick_ms items moments closings)) old new items moments
+Ended D W S pace old new items moments closings TurnsSpent =
+    (closings ≡ 0) × AskedBehindEach items moments × (length items ≡ pace.turns) × Makes (W (came (events pace.tick_ms items moments))) old new items moments
+Ended D W S pace old new items moments closings ClockFault =
+    (closings ≡ 0) × NotAskedBehindLast items moments × Makes (S (came (events pace.tick_ms items moments))) old new items moments
+Ended D W S pace old new items moments closings LinkFault =
+    ((closings ≡ 0) × EndsBetween S pace old new items moments) ⊎ GivesPart S (happenings pace.tick_ms items moments closings) old new items moments
+Ended D W S pace old new items moments closings DiskFault =
+    (closings ≡ 0) × LosesTurn S (came (events pace.tick_ms items moments)) old new items moments
+Ended D W S pace old new items moments closings Memory =
+    (Passes old new nothing × (items ≡ []) × (moments ≡ []) × (closings ≡ 0))
+    ⊎ (((closings ≡ 0) × EndsBetween S pace old new items moments) ⊎ LosesTurn S (happenings pace.tick_ms items moments closings) old new items moments)
+Ended D W S pace old new items moments closings _ = ⊥
+
+-- a loop that ended so, with the items and moments that it took in, and the turns that it made after the end of its link
+pub record Serves (D W S : Rule) (pace : Pace) (old new : Ends) (status : Status) : Type 0 where
   pub items : List Item
   pub moments : List ℕ
+  pub closings : ℕ
   pub within : length items ≤ pace.turns
-  pub ended : Ended W S pace old new items moments status
+  pub found_end : 1 ≤ closings → FoundEnd pace old new items moments
+  pub ended : Ended D W S pace old new items moments closings status
 
--- how a loop ends where neither its link nor its clock failed
+-- how a loop ends where none of its objects failed
 abbrev pub IsServed : Status → Type 0
 IsServed Done = Unit {0}
 IsServed TurnsSpent = Unit {0}

@@ -17,15 +17,15 @@ use Rattle.r2_frag.specs.Kept.{kept_with, most_kept, newest}
 use Rattle.cmd_replay.specs.declared.setup.Setup.{Setup}
 use Rattle.cmd_replay.specs.declared.member.Member.{Member}
 use Rattle.hc_log.specs.declared.stored.Stored.{Stored}
-use Rattle.hc_service.specs.Service.{Served, serve}
-use Rattle.hc_service.specs.State.{State, after_write, after_admission}
+use Rattle.hc_store.specs.Service.{Served, serve}
+use Rattle.hc_store.specs.State.{State, after_write, after_admission}
 use Rattle.cmd_replay.specs.Heard.{policy_of}
 use Rattle.cmd_replay.specs.Member.{own_address}
-use Rattle.hc_service.specs.Short.{AreShort}
+use Rattle.hc_store.specs.Short.{AreShort}
 use Rattle.r2_frag.specs.Replies.{IsReply, reply_parts}
 use Rattle.cmd_replay.specs.Turn.{resent, reply_of, next_payload, served_next, passed_over, entry_applied, applied_one, applied_all}
-use Rattle.hc_service.specs.Short.{IsShortAnswer}
-use Rattle.hc_service.proofs.Short.{payload_short, served_short}
+use Rattle.hc_store.specs.Short.{IsShortAnswer}
+use Rattle.hc_store.proofs.Short.{payload_short, served_short}
 
 policy_of-most : (kind : Kind) → policy_of kind ≤ 3
 policy_of-most Blank = omega arith

@@ -10,8 +10,8 @@ use Rattle.cmd_replay.specs.declared.member.Member.{Member}
 use Rattle.cmd_replay.specs.declared.setup.Setup.{Setup}
 use Rattle.hc_log.specs.declared.stored.Stored.{Stored}
 use Rattle.std.specs.Prelude.{◌==◌, Bool, true, false, if◌then◌else◌}
-use Rattle.hc_service.specs.Service.{Served, serve}
-use Rattle.hc_service.specs.State.{State, after_admission}
+use Rattle.hc_store.specs.Service.{Served, serve}
+use Rattle.hc_store.specs.State.{State, after_admission}
 use Rattle.cmd_replay.specs.Turn.{Sent, applied_one, applied_all, entry_applied, served_next, passed_over}
 
 -- what applying so many entries leaves as it was

@@ -1,4 +1,3 @@
-pub mod Counts
 pub mod Applying
 pub mod Replayed
 pub mod Answering
@@ -14,9 +13,6 @@ pub mod Recorded
 pub mod Turned
 pub mod Batches
 pub mod Runs
-pub mod Advance
-pub mod Endings
 pub mod Entries
 pub mod Replays
-pub mod Scripts
 pub mod OneThread

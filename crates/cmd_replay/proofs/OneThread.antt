@@ -13,9 +13,9 @@ use Rattle.r2_base.specs.declared.entry.Kind.{Kind}
 use Rattle.r2_base.specs.declared.entry.Kind.TheVariants.{Blank, Write, Read}
 use Rattle.r2_frag.specs.declared.kept.KeptReply.{KeptReply}
 use Rattle.r2_frag.specs.Kept.{kept_with}
-use Rattle.hc_service.specs.Service.{Contents, Served, serve}
-use Rattle.hc_service.specs.State.{State, after_write, after_admission}
-use Rattle.hc_service.specs.Replies.{Operation, payload_of, after_all, entry_reply, reply_at}
+use Rattle.hc_store.specs.Service.{Contents, Served, serve}
+use Rattle.hc_store.specs.State.{State, after_write, after_admission}
+use Rattle.hc_store.specs.Replies.{Operation, payload_of, after_all, entry_reply, reply_at}
 use Rattle.cmd_script.specs.declared.line.Line.{Line}
 use Rattle.cmd_replay.specs.declared.setup.Setup.{Setup}
 use Rattle.cmd_replay.specs.declared.member.Member.{Member}
@@ -23,7 +23,7 @@ use Rattle.cmd_replay.specs.declared.member.Role.{Role}
 use Rattle.cmd_replay.specs.declared.member.Role.TheVariants.{Follower, Candidate, Leader}
 use Rattle.hc_log.specs.declared.stored.Stored.{Stored}
 use Rattle.cmd_replay.specs.Member.{IsSound, begin}
-use Rattle.cmd_replay.specs.Operations.{IsReplayed, operation_of, operations, contents_after}
+use Rattle.hc_service.specs.Entries.{IsReplayed, operation_of, operations, contents_after}
 use Rattle.cmd_replay.specs.Script.{event_of, turn_at, line_turn, after}
 use Rattle.cmd_replay.specs.Turn.{Sent, reply_of, reply_sent, reply_kept, served_next, passed_over, entry_applied, applied_one, applied_all, batch_of, batched, due, reported, finished}
 use Rattle.cmd_replay.specs.Laws.{own_reply, own_replies, datagrams_of, IsOneThread, RepliesAreOneThread}

@@ -1,10 +1,7 @@
 -- What ordering asks of a log, and ordering by its steps.
-use Rattle.std.proofs.Common.{◌≡◌, ℕ, ◌+◌, ◌<◌, ◌≤◌, ◌^◌, Bool, true, false, List, length, Option, None, Some, refl, sym, ap, ◌∙◌, zero, suc}
-use Rattle.std.proofs.lemmas.Bool.{and_parts, ltb-true, leb-true}
-use Rattle.std.specs.Prelude.{MatchOption, nat_lt, nat_le, ◌&&◌}
+use Rattle.std.proofs.Common.{◌≡◌, ℕ, Bool, true, false, Option, None, Some, refl, sym, ap, ◌∙◌, zero, suc}
+use Rattle.std.specs.Prelude.{MatchOption}
 use Rattle.cmd_replay.specs.declared.member.Member.{Member}
-use Rattle.hc_log.specs.declared.stored.Stored.{Stored}
-use Rattle.hc_log.specs.Log.{has_room, requests_of, body_bytes_of}
 use Rattle.cmd_replay.specs.Turn.{gone_on, order_next, ordered}
 
 -- where nothing more may be ordered, ordering leaves the member

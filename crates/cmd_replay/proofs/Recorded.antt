@@ -17,7 +17,7 @@ use Rattle.cmd_replay.specs.Turn.{turned}
 use Rattle.cmd_replay.specs.Script.{event_of, turn_at, line_turn, after}
 use Rattle.cmd_replay.specs.Records.{stored_list, records_of, IsRecorded}
 use Rattle.cmd_replay.specs.Laws.{RecordsLeadToTheMember}
-use Rattle.cmd_replay.proofs.Advance.{after-append}
+use Rattle.cmd_replay.proofs.Runs.{after-append}
 use Rattle.cmd_replay.proofs.Sound.{sound-begin, sound-restarted}
 use Rattle.cmd_replay.proofs.Growth.{sound-turned}
 use Rattle.cmd_replay.proofs.Storing.{orderly-turned, leads-turned}

@@ -5,40 +5,18 @@ use Rattle.std.specs.FinMap as finite
 use Rattle.std.proofs.lemmas.List.{map-append}
 use Rattle.r2_base.specs.declared.entry.Kind.{Kind}
 use Rattle.r2_base.specs.declared.entry.Kind.TheVariants.{Blank, Write, Read}
-use Rattle.hc_service.specs.Service.{Contents, Served, serve}
-use Rattle.hc_service.specs.State.{State, new_state, after_admission}
-use Rattle.hc_service.specs.Replies.{Operation, after_entry, after_all}
-use Rattle.hc_service.proofs.Changes.{reads_change_nothing}
+use Rattle.hc_store.specs.Service.{Contents, Served, serve}
+use Rattle.hc_store.specs.State.{State, new_state, after_admission}
+use Rattle.hc_store.specs.Replies.{Operation, after_entry, after_all}
+use Rattle.hc_store.proofs.Changes.{reads_change_nothing}
 use Rattle.cmd_replay.specs.declared.setup.Setup.{Setup}
 use Rattle.cmd_replay.specs.declared.member.Member.{Member}
 use Rattle.hc_log.specs.declared.stored.Stored.{Stored}
-use Rattle.cmd_replay.specs.Operations.{IsReplayed, operation_of, operations, contents_after, is_write, writes_of, is_read, own_reads_of}
+use Rattle.hc_service.specs.Entries.{IsReplayed, operation_of, operations, contents_after, is_write, writes_of, is_read, own_reads_of}
 use Rattle.cmd_replay.specs.Turn.{served_next, passed_over, entry_applied, applied_one, applied_all}
-use Rattle.cmd_replay.proofs.Counts.{front-next, writes_of-next, own_reads_of-next}
+use Rattle.hc_service.proofs.Counts.{writes_of-next, own_reads_of-next}
+use Rattle.hc_service.proofs.Entries.{contents_after-next}
 use Rattle.cmd_replay.proofs.Applying.{is_first, applied_one-leaves}
-
--- entries after others are served after them
-after_all-append : (contents : Contents) (first second : List Operation) → after_all contents (first ++ second) ≡ after_all (after_all contents first) second
-unfolding after_all
-after_all-append contents [] second = refl
-after_all-append contents (operation ∷ first) second = after_all-append (after_entry contents operation.kind operation.body) first second
-
-after_all-one : (contents : Contents) (operation : Operation) → after_all contents (operation ∷ []) ≡ after_entry contents operation.kind operation.body
-unfolding after_all
-after_all-one contents operation = refl
-
-operations-more : (log : List Stored) (stored : Stored) → operations (log ++ stored ∷ []) ≡ operations log ++ operation_of stored ∷ []
-unfolding operations
-operations-more log stored = map-append operation_of log (stored ∷ [])
-
--- what is kept after one entry more
-contents_after-next : (log : List Stored) (i : ℕ) (stored : Stored) → slice_get log i ≡ Some stored
-    → contents_after (take (i + 1) log) ≡ after_entry (contents_after (take i log)) stored.entry.kind stored.body
-contents_after-next log i stored there =
-    ap contents_after (front-next log i stored there)
-    ∙ ap (after_all finite.empty) (operations-more (take i log) stored)
-    ∙ after_all-append finite.empty (operations (take i log)) (operation_of stored ∷ [])
-    ∙ after_all-one (contents_after (take i log)) (operation_of stored)
 
 -- what an entry does to the service: what one thread would keep, and one request more where it is executed
 record Executes (me : ℕ) (old new : State) (stored : Stored) (kind : Kind) : Type 0 where

@@ -1,149 +1,196 @@
--- From the pieces of a script to the whole of its replay.
-use Rattle.std.proofs.Common.{◌≡◌, ℕ, ◌+◌, List, [], ◌∷◌, ◌++◌, Option, Some, refl, sym, ap, subst, ◌∙◌, arith, append-nil, append_assoc, inl, inr}
-use Rattle.std.specs.Io.KnownBytes.{Appends, IsAtEnd}
-use Rattle.r2_link.specs.Streams.{AppendsFront}
-use Rattle.r2_link.proofs.Streams.{Appends-trans, Appends-nil, Appends-kept, AppendsFront-whole, AppendsFront-kept, AppendsFront-then, AppendsFront-nothing, Consumes-nil, Keeps-refl}
+-- From line to line of a script, and to the end of its replay.
+use Rattle.std.proofs.Common.{◌≡◌, ◌++◌, ◌∷◌, [], inl, inr, ℕ, ◌+◌, true, List, Option, Some, None, Ok, Err, refl, sym, ap, subst, ◌∙◌, append-nil, append_assoc, arith}
+use Rattle.std.specs.Io.KnownBytes.{Appends}
+use Rattle.r2_link.proofs.Streams.{Appends-kept, Appends-nil, Appends-trans, Consumes-nil}
 use Rattle.cmd_script.specs.declared.line.Line.{Line}
+use Rattle.cmd_script.specs.Line.{IsLine}
+use Rattle.cmd_lines.specs.declared.line_fault.LineFault.{LineFault}
+use Rattle.cmd_lines.specs.declared.line_fault.LineFault.TheVariants.{Source, Memory as NoRoom, TooLong, Limit}
+use Rattle.cmd_lines.specs.Faults.{status_of}
+use Rattle.cmd_lines.specs.Limits.{most_line}
+use Rattle.cmd_lines.specs.Reader.{KnowsEnd, ReaderState, ReadsLine}
+use Rattle.cmd_lines.specs.Script.{IsFront}
+use Rattle.cmd_lines.proofs.Grammar.{never_stuck}
+use Rattle.cmd_lines.proofs.Places.{EndsHere, LinePlace, Place, at-first, fault-read, fresh, front-before, next-of, none-read, place-then, took-of}
+use Rattle.cmd_lines.proofs.Reading.{IsNeeded-none}
+use Rattle.cmd_lines.proofs.Texts.{fed-none}
 use Rattle.cmd_replay.specs.declared.setup.Setup.{Setup}
 use Rattle.cmd_replay.specs.declared.member.Member.{Member}
 use Rattle.cmd_status.specs.declared.status.Status.{Status}
-use Rattle.cmd_status.specs.declared.status.Status.TheVariants.{Done, BadWords, BadScript, Memory, SourceFault, SinkFault, LinkFault, ClockFault, TimedOut, IdsUsed, TurnsSpent}
+use Rattle.cmd_status.specs.declared.status.Status.TheVariants.{Done, BadScript, Memory, SourceFault, SinkFault, TurnsSpent}
 use Rattle.cmd_replay.specs.Member.{begin}
-use Rattle.cmd_replay.specs.Script.{AreLines, fed, after, turns_text, last_text, script_text}
-use Rattle.cmd_replay.specs.Playback.{Advanced, EndsInside, IsRefused, Sticks, StopsPiece}
-use Rattle.cmd_replay.specs.Closing.{Closes, StopsEnd, WritesEnd, ending_text}
+use Rattle.cmd_replay.specs.Script.{after, last_text, line_turn, line_text, script_text, turns_text}
+use Rattle.cmd_replay.proofs.Runs.{after-append}
+use Rattle.cmd_replay.specs.Running.{ClosesScript, CutsText, Ran, StopsText}
 use Rattle.cmd_replay.specs.Grammar.{IsScript}
-use Rattle.cmd_replay.proofs.Scripts.{no_stranger}
-use Rattle.cmd_replay.specs.Replay.{IsComplete, IsWhole, IsPartial, IsStuck, IsFront, IsLineEnd, WritesPart, Replays, IsReplay}
-use Rattle.cmd_replay.proofs.Advance.{AreLines-append, AreLines-none, turns_text-append, after-append, fed-none}
+use Rattle.cmd_replay.specs.Replay.{CutsLine, IsComplete, IsReplay}
 
--- whole lines, and the beginning of another
-pub partial-of : (s : Setup) (m : Member) (rest : List ℕ) (count : ℕ) (a b : Option (List ℕ)) (taken : List ℕ) → Advanced s begin m [] rest 0 count a b taken
-    → (lines : List Line) × IsPartial taken lines × Appends a b (turns_text s begin lines)
-partial-of s m rest count a b taken gone =
-    let ran = gone.ran in
-    let is : IsPartial taken ran.lines = record { texts = gone.texts; rest = rest; known = ran.known; unfinished = gone.unfinished; split = gone.split } in
-    (ran.lines, is, ran.gave)
+turns_text-append : (s : Setup) (m : Member) (first second : List Line) → turns_text s m (first ++ second) ≡ turns_text s m first ++ turns_text s (after s m first) second
+unfolding turns_text after
+turns_text-append s m [] second = refl
+turns_text-append s m (line ∷ first) second =
+    let n = (line_turn s m line).member in
+    ap (λ x. line_text s m line ++ x) (turns_text-append s n first second)
+    ∙ sym (append_assoc (line_text s m line) (turns_text s n first) (turns_text s (after s n first) second))
 
-line_end : (left : Option (List ℕ)) (bad rest : List ℕ) → EndsInside bad rest → IsLineEnd left bad rest
-line_end left bad [] h = inr h
-line_end left bad (b ∷ rest) h = h
+turns_text-none : (s : Setup) (m : Member) → turns_text s m [] ≡ []
+unfolding turns_text
+turns_text-none s m = refl
 
--- a text that is no line, after what was taken before
-stuck-of : (s : Setup) (left : Option (List ℕ)) (a b : Option (List ℕ)) (taken : List ℕ) (line : ℕ) → Sticks s begin [] 0 line a b taken
-    → (lines : List Line) × IsStuck left taken lines line × Appends a b (turns_text s begin lines)
-stuck-of s left a b taken line h =
-    let number = h.number in
-    let is : IsStuck left taken h.lines line =
-    record {
-      texts = h.texts;
-      bad = h.bad;
-      rest = h.rest;
-      known = h.known;
-      split = h.split;
-      one_line = h.one_line;
-      nonempty = h.nonempty;
-      refused = h.refused;
-      ends = line_end left h.bad h.rest h.ends;
-      counted = omega (arith, number);
-    } in
-    (h.lines, is, h.gave)
+after-none : (s : Setup) (m : Member) → after s m [] ≡ m
+unfolding after
+after-none s m = refl
 
--- what stopped a piece, after what was taken before
-pub stopped-of : (s : Setup) (left : Option (List ℕ)) (a b : Option (List ℕ)) (taken : List ℕ) (status : Status) → StopsPiece s begin [] 0 a b taken status → Replays s left taken a b status
-stopped-of s left a b taken (BadScript line) h = stuck-of s left a b taken line h
-stopped-of s left a b taken SinkFault h =
-    let is : IsFront taken h.lines = record { texts = h.texts; rest = h.rest; known = h.known; split = h.split } in inl (h.lines, is, h.gave)
-stopped-of s left a b taken Memory h =
-    let is : IsFront taken h.lines = record { texts = h.texts; rest = h.rest; known = h.known; split = h.split } in inl (h.lines, is, h.gave)
-stopped-of s left a b taken Done h = absurd h
-stopped-of s left a b taken BadWords h = absurd h
-stopped-of s left a b taken SourceFault h = absurd h
-stopped-of s left a b taken LinkFault h = absurd h
-stopped-of s left a b taken ClockFault h = absurd h
-stopped-of s left a b taken TimedOut h = absurd h
-stopped-of s left a b taken IdsUsed h = absurd h
-stopped-of s left a b taken TurnsSpent h = absurd h
+script_text-is : (s : Setup) (lines : List Line) → script_text s lines ≡ turns_text s begin lines ++ last_text s (after s begin lines)
+unfolding script_text
+script_text-is s lines = refl
 
-module _ (s : Setup) (m : Member) (rest : List ℕ) (count : ℕ) (left a b c : Option (List ℕ)) (taken : List ℕ) (gone : Advanced s begin m [] rest 0 count a b taken) (ended : IsAtEnd left) where
-  -- the lines of the pieces and that of the last text are the whole script
-  whole_of : (last : List Line) → AreLines (rest ∷ []) last → IsWhole left taken (gone.ran.lines ++ last)
-  whole_of last known =
-      let ran = gone.ran in
-      record {
-        texts = gone.texts;
-        last = rest;
-        known = AreLines-append gone.texts (rest ∷ []) ran.lines last ran.known known;
-        split = gone.split;
-        ended = ended;
-      }
+-- what was written for some lines, and then for others
+written-then : (s : Setup) (m n : Member) (first second : List Line) → n ≡ after s m first
+    → turns_text s m first ++ turns_text s n second ≡ turns_text s m (first ++ second)
+written-then s m n first second at = ap (λ (x : Member). turns_text s m first ++ turns_text s x second) at ∙ sym (turns_text-append s m first second)
 
-  whole_text : (last : List Line) → turns_text s begin gone.ran.lines ++ ending_text s m last ≡ script_text s (gone.ran.lines ++ last)
-  unfolding script_text
-  whole_text last =
-      let ran = gone.ran in
-      let text : Member → List ℕ = λ x. turns_text s begin ran.lines ++ ending_text s x last in
-      ap text ran.at
-      ∙ sym (append_assoc (turns_text s begin ran.lines) (turns_text s (after s begin ran.lines) last) (last_text s (after s (after s begin ran.lines) last)))
-      ∙ ap (λ x. x ++ last_text s (after s (after s begin ran.lines) last)) (sym (turns_text-append s begin ran.lines last))
-      ∙ ap (λ (x : Member). turns_text s begin (ran.lines ++ last) ++ last_text s x) (sym (after-append s begin ran.lines last))
+-- the lines that were taken were run
+pub record HasRun (s : Setup) (m : Member) (lines : List Line) (old new : Option (List ℕ)) : Type 0 where
+  pub at : m ≡ after s begin lines
+  pub gave : Appends old new (turns_text s begin lines)
 
-  -- the whole script was run
-  pub done-of : Closes s m rest b c → Replays s left taken a c Done
-  done-of closes =
-      let ran = gone.ran in
-      (ran.lines ++ closes.lines, whole_of closes.lines closes.known, subst (Appends a c) (whole_text closes.lines) (Appends-trans a b c _ _ ran.gave closes.gave))
+-- a replay between two lines
+pub record IsHere (s : Setup) (m : Member) (left left' : Option (List ℕ)) (r : ReaderState) (old new : Option (List ℕ)) : Type 0 where
+  pub lines : List Line
+  pub taken : List ℕ
+  pub place : Place most_line IsLine left left' r taken lines
+  pub ran : HasRun s m lines old new
+  pub knows : KnowsEnd r left'
 
-  part_of : WritesEnd s m rest b c → WritesPart s left taken a c
-  part_of (inl kept) =
-      let ran = gone.ran in
-      let is : IsFront taken ran.lines = record { texts = gone.texts; rest = rest; known = ran.known; split = gone.split } in
-      inl (ran.lines, is, AppendsFront-kept a b c (turns_text s begin ran.lines) (AppendsFront-whole a b (turns_text s begin ran.lines) ran.gave) kept)
-  part_of (inr front) =
-      let ran = gone.ran in
-      inr (ran.lines ++ front.0, whole_of front.0 front.1, subst (AppendsFront a c) (whole_text front.0) (AppendsFront-then a b c _ _ front.2 ran.gave))
+-- before the first line
+pub here-first : (s : Setup) (left a : Option (List ℕ)) → IsHere s begin left left (fresh most_line) a a
+here-first s left a = record {
+  lines = [];
+  taken = [];
+  place = at-first most_line IsLine left;
+  ran = record { at = sym (after-none s begin); gave = subst (Appends a a) (sym (turns_text-none s begin)) (Appends-nil a) };
+  knows = λ e. absurd (cc (e));
+}
 
-  stuck_of : (line : ℕ) → IsRefused rest (count + 1) line b c
-      → (lines : List Line) × IsStuck left taken lines line × Appends a c (turns_text s begin lines)
-  stuck_of line h =
-      let ran = gone.ran in
-      let line_is = h.counted in
-      let number = gone.number in
-      let unfinished = gone.unfinished in
-      let is : IsStuck left taken ran.lines line =
-      record {
-        texts = gone.texts;
-        bad = rest;
-        rest = [];
-        known = ran.known;
-        split = gone.split ∙ sym (append-nil (fed gone.texts ++ rest));
-        one_line = unfinished.one_line;
-        nonempty = h.nonempty;
-        refused = h.refused;
-        ends = inl ended;
-        counted = omega (arith, line_is, number);
-      } in
-      (ran.lines, is, subst (Appends a c) (append-nil (turns_text s begin ran.lines)) (Appends-trans a b c (turns_text s begin ran.lines) [] ran.gave (Appends-kept b b c [] (Appends-nil b) h.kept)))
+module _ (s : Setup) (m : Member) (left left' : Option (List ℕ)) (lines : List Line) (a b c : Option (List ℕ)) (ran : HasRun s m lines a b) where
+  -- one more line was run
+  pub here-then : (n : Member) (r : ReaderState) (taken text : List ℕ) → LinePlace most_line IsLine left left' r taken lines text → KnowsEnd r left' → Ran s m n text b c → IsHere s n left left' r a c
+  here-then n r taken text place knows next = record {
+    lines = lines ++ next.lines;
+    taken = taken;
+    place = place-then most_line IsLine left left' r taken lines next.lines text place next.said;
+    ran = record {
+      at = next.at ∙ ap (λ (x : Member). after s x next.lines) ran.at ∙ sym (after-append s begin lines next.lines);
+      gave = subst (Appends a c) (written-then s begin m lines next.lines ran.at) (Appends-trans a b c _ _ ran.gave next.gave);
+    };
+    knows = knows;
+  }
 
-  -- the end of the script wasn't run whole
-  pub unended-of : (status : Status) → StopsEnd s m rest (count + 1) b c status → Replays s left taken a c status
-  unended-of (BadScript line) h = stuck_of line h
-  unended-of SinkFault h = part_of h
-  unended-of Memory h = part_of h
-  unended-of Done h = absurd h
-  unended-of BadWords h = absurd h
-  unended-of SourceFault h = absurd h
-  unended-of LinkFault h = absurd h
-  unended-of ClockFault h = absurd h
-  unended-of TimedOut h = absurd h
-  unended-of IdsUsed h = absurd h
-  unended-of TurnsSpent h = absurd h
+  kept : Appends b c [] → Appends a c (turns_text s begin lines)
+  kept nothing = subst (Appends a c) (append-nil (turns_text s begin lines)) (Appends-trans a b c (turns_text s begin lines) [] ran.gave nothing)
+
+  -- a prefix of what the line prints was written
+  cuts : (r : ReaderState) (taken text : List ℕ) (number : ℕ) → LinePlace most_line IsLine left left' r taken lines text → number ≡ r.lines → CutsText s m text b c → CutsLine s left' taken a c
+  cuts r taken text number place is cut = record {
+    lines = lines;
+    text = text;
+    number = number;
+    next = next-of most_line IsLine left left' r taken lines text number place cut.nonempty is;
+    line = cut.line;
+    said = cut.said;
+    front = cut.front.front;
+    rest = cut.front.rest;
+    split = subst (λ (x : Member). line_text s x cut.line ≡ cut.front.front ++ cut.front.rest) ran.at cut.front.split;
+    gave = Appends-trans a b c (turns_text s begin lines) cut.front.front ran.gave cut.front.gave;
+  }
+
+  -- a line wasn't run to its end
+  pub text-stops : (r : ReaderState) (taken text : List ℕ) (number : ℕ) (status : Status) → LinePlace most_line IsLine left left' r taken lines text → number ≡ r.lines
+      → StopsText s m text number b c status → IsReplay s left left' a c status
+  text-stops r taken text number (BadScript counted) place is stops = record {
+    taken = taken;
+    took = took-of most_line IsLine left left' r taken lines text place;
+    did = record {
+      lines = lines;
+      ends = inl (text, next-of most_line IsLine left left' r taken lines text counted place stops.nonempty (stops.count ∙ is), stops.refused);
+      gave = kept (Appends-kept b b c [] (Appends-nil b) stops.kept);
+    };
+  }
+  text-stops r taken text number SinkFault place is stops =
+      record { taken = taken; took = took-of most_line IsLine left left' r taken lines text place; did = inl (cuts r taken text number place is stops) }
+  text-stops r taken text number Memory place is (inl still) = record {
+    taken = taken;
+    took = took-of most_line IsLine left left' r taken lines text place;
+    did = inl (record { lines = lines; ends = inl (front-before most_line IsLine left left' r taken lines text place); gave = kept (Appends-kept b b c [] (Appends-nil b) still) });
+  }
+  text-stops r taken text number Memory place is (inr cut) =
+      record { taken = taken; took = took-of most_line IsLine left left' r taken lines text place; did = inr (inl (cuts r taken text number place is cut)) }
+  text-stops r taken text number _ place is stops = absurd stops
+
+  -- the script was read to its end
+  pub closes : (status : Status) → EndsHere most_line IsLine left left' lines Done → ClosesScript b c (last_text s m) status → IsReplay s left left' a c status
+  closes Done here gave = record {
+    taken = here.taken;
+    took = here.took;
+    did = record {
+      lines = lines;
+      whole = here.ends;
+      gave = subst (Appends a c) (ap (λ (x : Member). turns_text s begin lines ++ last_text s x) ran.at ∙ sym (script_text-is s lines)) (Appends-trans a b c _ _ ran.gave gave);
+    };
+  }
+  closes SinkFault here cut = record {
+    taken = here.taken;
+    took = here.took;
+    did = inr (record {
+      lines = lines;
+      whole = here.ends;
+      front = cut.front;
+      rest = cut.rest;
+      split = subst (λ (x : Member). last_text s x ≡ cut.front ++ cut.rest) ran.at cut.split;
+      gave = Appends-trans a b c (turns_text s begin lines) cut.front ran.gave cut.gave;
+    });
+  }
+  closes Memory here cut = record {
+    taken = here.taken;
+    took = here.took;
+    did = inr (inr (record {
+      lines = lines;
+      whole = here.ends;
+      front = cut.front;
+      rest = cut.rest;
+      split = subst (λ (x : Member). last_text s x ≡ cut.front ++ cut.rest) ran.at cut.split;
+      gave = Appends-trans a b c (turns_text s begin lines) cut.front ran.gave cut.gave;
+    }));
+  }
+  closes _ here gave = absurd gave
+
+-- the next line can't be had
+ends-so : (s : Setup) (left left' a b : Option (List ℕ)) (lines : List Line) (fault : LineFault) (number : ℕ)
+    → EndsHere most_line IsLine left left' lines (status_of fault number) → Appends a b (turns_text s begin lines) → IsReplay s left left' a b (status_of fault number)
+ends-so s left left' a b lines Source number here gave = record { taken = here.taken; took = here.took; did = record { lines = lines; ends = here.ends; gave = gave } }
+ends-so s left left' a b lines NoRoom number here gave = record { taken = here.taken; took = here.took; did = inl (record { lines = lines; ends = here.ends; gave = gave }) }
+ends-so s left left' a b lines TooLong number here gave = record { taken = here.taken; took = here.took; did = record { lines = lines; ends = here.ends; gave = gave } }
+ends-so s left left' a b lines Limit number here gave = record { taken = here.taken; took = here.took; did = record { lines = lines; ends = here.ends; gave = gave } }
+
+pub faults : (s : Setup) (m : Member) (left b left' : Option (List ℕ)) (r t : ReaderState) (a c : Option (List ℕ)) (fault : LineFault) (number : ℕ)
+    → IsHere s m left b r a c → ReadsLine r t b left' (Err fault) → KnowsEnd t left' → (r.ended ≡ true → t.ended ≡ true) → number ≡ t.lines + 1
+    → IsReplay s left left' a c (status_of fault number)
+faults s m left b left' r t a c fault number here read knows stays is =
+    ends-so s left left' a c here.lines fault number (fault-read most_line IsLine left b left' r t here.taken here.lines fault number here.place read knows stays is) here.ran.gave
+
+-- and where there is none
+pub closed : (s : Setup) (m : Member) (left b left' : Option (List ℕ)) (r t : ReaderState) (a c d : Option (List ℕ)) (status : Status)
+    → IsHere s m left b r a c → ReadsLine r t b left' (Ok None) → KnowsEnd t left' → ClosesScript c d (last_text s m) status → IsReplay s left left' a d status
+closed s m left b left' r t a c d status here read knows end =
+    closes s m left left' here.lines a c d here.ran status (none-read most_line IsLine left b left' r t here.taken here.lines here.place read knows) end
 
 -- nothing was taken, and nothing was written
 pub nothing-of : (s : Setup) (left a : Option (List ℕ)) → IsReplay s left left a a Memory
+unfolding turns_text
 nothing-of s left a =
-    let is : IsFront [] [] = record { texts = []; rest = []; known = AreLines-none; split = sym (append-nil (fed []) ∙ fed-none) } in
-    record { taken = []; took = Consumes-nil left; did = inl ([], is, AppendsFront-nothing a a (turns_text s begin []) (Keeps-refl a)) }
+    let none : IsFront most_line IsLine [] [] = record { texts = []; rest = []; each = λ k d h. absurd (omega (arith, h)); said = refl; split = sym (append-nil _ ∙ fed-none); needed = IsNeeded-none most_line } in
+    record { taken = []; took = Consumes-nil left; did = inl (record { lines = []; ends = inl none; gave = Appends-nil a }) }
 
 -- a script in its grammar is run to its end, unless something failed
 pub complete-of : (s : Setup) (script : List ℕ) (left' written written' : Option (List ℕ)) (status : Status)
@@ -151,14 +198,8 @@ pub complete-of : (s : Setup) (script : List ℕ) (left' written written' : Opti
 complete-of s script left' w w' Done is ran source sink = tt
 complete-of s script left' w w' Memory is ran source sink = tt
 complete-of s script left' w w' TurnsSpent is ran source sink = tt
+complete-of s script left' w w' SourceFault is ran source sink = absurd (source refl)
+complete-of s script left' w w' SinkFault is ran source sink = absurd (sink refl)
 complete-of s script left' w w' (BadScript number) is ran source sink =
-    let stuck = ran.did.1 in
-    let known = stuck.known in
-    no_stranger script ran.taken left' stuck.texts stuck.bad stuck.rest is ran.took known.each stuck.split stuck.one_line stuck.nonempty stuck.ends stuck.refused
-complete-of s script left' w w' BadWords is ran source sink = ran.did
-complete-of s script left' w w' SourceFault is ran source sink = source refl
-complete-of s script left' w w' SinkFault is ran source sink = sink refl
-complete-of s script left' w w' LinkFault is ran source sink = ran.did
-complete-of s script left' w w' ClockFault is ran source sink = ran.did
-complete-of s script left' w w' TimedOut is ran source sink = ran.did
-complete-of s script left' w w' IdsUsed is ran source sink = ran.did
+    absurd (never_stuck most_line IsLine script ran.taken left' ran.did.lines number is ran.took ran.did.ends)
+complete-of s script left' w w' _ is ran source sink = absurd ran.did.ends

@@ -1,9 +1,8 @@
 -- The text of one line, run by a member.
-use Rattle.std.proofs.Common.{◌≡◌, ◌≢◌, ℕ, true, List, [], ◌∷◌, length, Option, None, Some, refl, sym, ap, subst, ◌∙◌, arith, append-nil, inr}
-use Rattle.std.specs.Prelude.{All, Bool, false, ◌==◌}
+use Rattle.std.proofs.Common.{◌≡◌, ◌≢◌, ℕ, true, List, [], ◌∷◌, ◌++◌, length, Option, None, Some, refl, sym, ap, subst, ◌∙◌, append-nil, inr}
+use Rattle.std.specs.Prelude.{Bool, false, ◌==◌}
 use Rattle.std.proofs.lemmas.Bool.{eqb-true}
 use Rattle.std.proofs.lemmas.List.{nil_from_length}
-use Rattle.std.proofs.lemmas.List.Elements.{All-push}
 use Rattle.std.specs.Io.KnownBytes.{Appends}
 use Rattle.r2_link.specs.Streams.{AppendsFront}
 use Rattle.r2_link.proofs.Streams.{Appends-nil}
@@ -11,34 +10,26 @@ use Rattle.cmd_script.specs.declared.line.Line.{Line}
 use Rattle.cmd_replay.specs.declared.setup.Setup.{Setup}
 use Rattle.cmd_replay.specs.declared.member.Member.{Member}
 use Rattle.cmd_status.specs.declared.status.Status.{Status}
-use Rattle.cmd_status.specs.declared.status.Status.TheVariants.{Done, BadWords, BadScript, Memory, SourceFault, SinkFault, LinkFault, ClockFault, TimedOut, IdsUsed, TurnsSpent}
+use Rattle.cmd_status.specs.declared.status.Status.TheVariants.{Memory, SinkFault}
 use Rattle.cmd_script.specs.Line.{IsLine}
 use Rattle.cmd_status.specs.Stops.{StopsBySink}
-use Rattle.cmd_replay.specs.Script.{IsText, Say, AreLines, after, line_turn, turn_at, line_text, turns_text, event_of}
+use Rattle.cmd_replay.specs.Script.{after, line_turn, turn_at, line_text, turns_text, event_of}
 use Rattle.cmd_replay.specs.Turn.{Reacted, turned}
 use Rattle.r2_base.specs.declared.event.Event.{Event}
 use Rattle.cmd_replay.specs.Printed.{turn_text}
-use Rattle.cmd_replay.specs.Playback.{Ran, StopsText}
-
--- one text is a list of texts
-one_is_text : (text : List ℕ) → IsText text → All IsText (text ∷ [])
-one_is_text text is = All-push IsText [] text (λ k d h. absurd (omega (arith, h))) is
+use Rattle.cmd_replay.specs.Running.{Ran, StopsText}
+use Rattle.cmd_lines.specs.Script.{Say}
 
 -- an empty text is no line
-pub ran-nothing : (s : Setup) (m : Member) (text : List ℕ) (old : Option (List ℕ)) → IsText text → text ≡ [] → Ran s m m (text ∷ []) old old
+pub ran-nothing : (s : Setup) (m : Member) (text : List ℕ) (old : Option (List ℕ)) → text ≡ [] → Ran s m m text old old
 unfolding after turns_text
-ran-nothing s m text old is none =
-    let known : AreLines (text ∷ []) [] =
-    record { each = one_is_text text is; said = subst (λ x. Say (x ∷ []) []) (sym none) refl } in
-    record { lines = []; known = known; at = refl; gave = Appends-nil old }
-
-said_one : (text : List ℕ) (line : Line) → text ≢ [] → IsLine text line → Say (text ∷ []) (line ∷ [])
-said_one [] line some is = absurd (some refl)
-said_one (b ∷ text) line some is = (is, refl)
+ran-nothing s m text old none =
+    record { lines = []; said = subst (λ x. Say IsLine (x ∷ []) []) (sym none) refl; at = refl; gave = Appends-nil old }
 
 -- a text that is a line
-pub one_line : (text : List ℕ) (line : Line) → IsText text → text ≢ [] → IsLine text line → AreLines (text ∷ []) (line ∷ [])
-one_line text line short some is = record { each = one_is_text text short; said = said_one text line some is }
+pub said_one : (text : List ℕ) (line : Line) → text ≢ [] → IsLine text line → Say IsLine (text ∷ []) (line ∷ [])
+said_one [] line some is = absurd (some refl)
+said_one (b ∷ text) line some is = (is, refl)
 
 -- what a line makes of a member, by the line's event
 pub line_turn-at : (s : Setup) (m : Member) (line : Line) (o : Option Event) → event_of s line ≡ o → line_turn s m line ≡ turn_at s m o
@@ -60,37 +51,31 @@ turns_text-one : (s : Setup) (m : Member) (line : Line) → line_text s m line �
 unfolding turns_text
 turns_text-one s m line = sym (append-nil (line_text s m line))
 
+pub after-append : (s : Setup) (m : Member) (first second : List Line) → after s m (first ++ second) ≡ after s (after s m first) second
+unfolding after
+after-append s m [] second = refl
+after-append s m (line ∷ first) second = after-append s (line_turn s m line).member first second
+
 after-one : (s : Setup) (m : Member) (line : Line) → (line_turn s m line).member ≡ after s m (line ∷ [])
 unfolding after
 after-one s m line = refl
 
-module _ (s : Setup) (m : Member) (text : List ℕ) (line : Line) where
-  -- the member ran the line
-  pub ran-line : (n : Member) (old new : Option (List ℕ)) → AreLines (text ∷ []) (line ∷ [])
-      → n ≡ (line_turn s m line).member → Appends old new (line_text s m line) → Ran s m n (text ∷ []) old new
-  ran-line n old new known at gave =
-      record {
-        lines = line ∷ [];
-        known = known;
-        at = at ∙ after-one s m line;
-        gave = subst (Appends old new) (turns_text-one s m line) gave;
-      }
+-- the member ran the line
+pub ran-line : (s : Setup) (m n : Member) (text : List ℕ) (line : Line) (old new : Option (List ℕ)) → text ≢ [] → IsLine text line
+    → n ≡ (line_turn s m line).member → Appends old new (line_text s m line) → Ran s m n text old new
+ran-line s m n text line old new some is at gave = record {
+  lines = line ∷ [];
+  said = said_one text line some is;
+  at = at ∙ after-one s m line;
+  gave = subst (Appends old new) (turns_text-one s m line) gave;
+}
 
-  -- printing what a line prints was cut short
-  pub stops-line : (number : ℕ) (old new : Option (List ℕ)) (faults faults' : ℕ) (status : Status)
-      → StopsBySink faults faults' status → AreLines (text ∷ []) (line ∷ [])
-      → AppendsFront old new (line_text s m line) → StopsText s m text number old new status
-  stops-line number old new f f' SinkFault why known front = inr (line ∷ [], known, subst (AppendsFront old new) (turns_text-one s m line) front)
-  stops-line number old new f f' Memory why known front = inr (line ∷ [], known, subst (AppendsFront old new) (turns_text-one s m line) front)
-  stops-line number old new f f' Done why known front = absurd why
-  stops-line number old new f f' BadWords why known front = absurd why
-  stops-line number old new f f' SourceFault why known front = absurd why
-  stops-line number old new f f' LinkFault why known front = absurd why
-  stops-line number old new f f' ClockFault why known front = absurd why
-  stops-line number old new f f' TimedOut why known front = absurd why
-  stops-line number old new f f' IdsUsed why known front = absurd why
-  stops-line number old new f f' TurnsSpent why known front = absurd why
-  stops-line number old new f f' (BadScript n) why known front = absurd why
+-- printing what a line prints was cut short
+pub stops-line : (s : Setup) (m : Member) (text : List ℕ) (line : Line) (number : ℕ) (old new : Option (List ℕ)) (faults faults' : ℕ) (status : Status)
+    → StopsBySink faults faults' status → text ≢ [] → IsLine text line → AppendsFront old new (line_text s m line) → StopsText s m text number old new status
+stops-line s m text line number old new f f' SinkFault why some is front = record { nonempty = some; line = line; said = is; front = front }
+stops-line s m text line number old new f f' Memory why some is front = inr (record { nonempty = some; line = line; said = is; front = front })
+stops-line s m text line number old new f f' _ why some is front = absurd why
 
 -- what a test for an empty text shows
 pub empty_text : (text : List ℕ) (b : Bool) → b ≡ (length text == 0) → b ≡ true → text ≡ []

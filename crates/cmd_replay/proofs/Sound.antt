@@ -11,14 +11,14 @@ use Rattle.cmd_replay.specs.declared.member.Role.TheVariants.{Follower, Candidat
 use Rattle.hc_pool.specs.declared.request.Request.{Request}
 use Rattle.hc_log.specs.declared.stored.Stored.{Stored}
 use Rattle.hc_log.specs.Log.{has_room, stands_in, blank_of, requests_of}
-use Rattle.cmd_replay.specs.Operations.{IsReplayed}
+use Rattle.hc_service.specs.Entries.{IsReplayed}
 use Rattle.hc_pool.specs.Pool.{waits_in}
 use Rattle.cmd_replay.specs.Queues.{choose}
 use Rattle.std.specs.FinMap as finite
 use Rattle.std.specs.Ordering.{nat_cmp}
 use Rattle.std.specs.Cmp.Lexicographic.{slice_cmp}
 use Rattle.cmd_replay.specs.Member.{anew, begin, restarted, IsSound}
-use Rattle.hc_service.specs.Short.{AreShort}
+use Rattle.hc_store.specs.Short.{AreShort}
 use Rattle.cmd_replay.specs.declared.heard.Heard.{Heard}
 use Rattle.cmd_replay.specs.declared.heard.Heard.TheVariants.{Nothing, Whole, Tick}
 use Rattle.cmd_replay.specs.Heard.{IsShortHeard}
@@ -31,7 +31,7 @@ use Rattle.cmd_replay.proofs.Answering.{CanAnswer, applied_all-answers}
 use Rattle.cmd_replay.proofs.ShortReceived.{received_short}
 use Rattle.hc_log.proofs.Rooms.{has_room-parts}
 use Rattle.hc_log.proofs.Counting.{requests_of_more}
-use Rattle.cmd_replay.proofs.Counts.{one_request}
+use Rattle.hc_service.proofs.Counts.{one_request}
 use Rattle.cmd_replay.proofs.Replayed.{replayed-begin, applied_all-replayed}
 use Rattle.r2_frag.specs.Sizes.{IsShort}
 use Rattle.r2_base.specs.declared.event.Event.{Event}

@@ -4,7 +4,7 @@ use Rattle.std.specs.List.{flat_map}
 use Rattle.r2_base.specs.declared.datagram.Datagram.{Datagram}
 use Rattle.r2_frag.specs.declared.kept.KeptReply.{KeptReply}
 use Rattle.r2_frag.specs.Kept.{kept_with}
-use Rattle.hc_service.specs.Replies.{reply_at}
+use Rattle.hc_store.specs.Replies.{reply_at}
 use Rattle.cmd_script.specs.declared.line.Line.{Line}
 use Rattle.cmd_script.specs.declared.line.Line.TheVariants.{Restart}
 use Rattle.cmd_replay.specs.declared.setup.Setup.{Setup}
@@ -15,7 +15,7 @@ use Rattle.cmd_replay.specs.Durable.{durable_of}
 use Rattle.cmd_replay.specs.Member.{anew, begin, own_address}
 use Rattle.cmd_replay.specs.Records.{records_of}
 use Rattle.cmd_replay.specs.Replay.{IsAlone}
-use Rattle.cmd_replay.specs.Operations.{IsReplayed, operations}
+use Rattle.hc_service.specs.Entries.{IsReplayed, operations}
 use Rattle.r2_frag.specs.Replies.{reply_parts}
 use Rattle.cmd_replay.specs.Script.{after}
 use Rattle.cmd_replay.specs.Turn.{reply_of, due, finished}

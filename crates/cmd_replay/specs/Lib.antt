@@ -1,5 +1,4 @@
 pub mod Durable
-pub mod Operations
 pub mod Queues
 pub mod Member
 pub mod Printed
@@ -8,7 +7,6 @@ pub mod Turn
 pub mod Script
 pub mod Records
 pub mod Replay
-pub mod Playback
-pub mod Closing
+pub mod Running
 pub mod Grammar
 pub mod Laws

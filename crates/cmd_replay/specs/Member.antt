@@ -6,15 +6,15 @@ use Rattle.cmd_replay.specs.declared.setup.Setup.{Setup}
 use Rattle.cmd_replay.specs.declared.member.Member.{Member}
 use Rattle.cmd_replay.specs.declared.member.Role.TheVariants.{Follower, Leader}
 use Rattle.r2_frag.specs.Sizes.{IsShort}
-use Rattle.hc_service.specs.Short.{AreShort}
-use Rattle.hc_service.specs.State.{new_state}
+use Rattle.hc_store.specs.Short.{AreShort}
+use Rattle.hc_store.specs.State.{new_state}
 use Rattle.hc_log.specs.Log.{stands_in, requests_of}
 use Rattle.hc_log.specs.Durable.{State, begun, IsValid}
 use Rattle.hc_log.specs.Ranges.{most_requests}
 use Rattle.hc_pool.specs.declared.request.Request.{Request}
 use Rattle.hc_pool.specs.Pool.{IsPool}
 use Rattle.cmd_replay.specs.Durable.{durable_of}
-use Rattle.cmd_replay.specs.Operations.{IsReplayed}
+use Rattle.hc_service.specs.Entries.{IsReplayed}
 use Rattle.r2_frag.specs.Replies.{IsReply}
 
 -- a member that begins with this durable state; all else is new

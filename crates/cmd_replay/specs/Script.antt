@@ -1,6 +1,5 @@
--- A script as a list of lines, and what its replay prints.
-use Rattle.std.specs.Prelude.{◌≡◌, ◌≢◌, ℕ, ◌-◌, ◌≤◌, ◌==◌, if◌then◌else◌, suc, zero, List, [], ◌∷◌, ◌++◌, length, All, Option, Some, None}
-use Rattle.std.specs.List.{flat_map}
+-- What the lines of a script make of a member, and what their replay prints.
+use Rattle.std.specs.Prelude.{ℕ, ◌-◌, ◌==◌, if◌then◌else◌, suc, zero, List, [], ◌∷◌, ◌++◌, Option, Some, None}
 use Rattle.r2_base.specs.declared.event.Event.{Event}
 use Rattle.r2_base.specs.declared.event.Event.TheVariants.{Datagram as DatagramEvent, Tick as TickEvent, Quiet as QuietEvent}
 use Rattle.cmd_script.specs.declared.line.Line.{Line}
@@ -10,23 +9,6 @@ use Rattle.cmd_replay.specs.declared.member.Member.{Member}
 use Rattle.cmd_replay.specs.Member.{begin, restarted, own_address}
 use Rattle.cmd_replay.specs.Turn.{finished, Reacted, turned}
 use Rattle.cmd_replay.specs.Printed.{turn_text}
-use Rattle.cmd_script.specs.Line.{IsLine}
-
--- the text of a line, without its end: 8,192 bytes at most
-pub record IsText (text : List ℕ) : Type 0 where
-  pub one_line : All (λ b. b ≢ 10) text
-  pub short : length text ≤ 8192
-
--- texts as a script has them, each with its end
-unfoldable pub fed : List (List ℕ) → List ℕ
-fed texts = flat_map (λ text. text ++ 10 ∷ []) texts
-
--- the texts say these lines, in order; an empty text says nothing
-abbrev pub Say : List (List ℕ) → List Line → Type 0
-Say [] lines = lines ≡ []
-Say ([] ∷ texts) lines = Say texts lines
-Say ((b ∷ text) ∷ texts) [] = ⊥
-Say ((b ∷ text) ∷ texts) (line ∷ lines) = IsLine (b ∷ text) line × Say texts lines
 
 -- the event of a line; a restart has none; a datagram comes to the replica's own address
 abbrev pub event_of : Setup → Line → Option Event
@@ -72,12 +54,3 @@ last_text s m = closing_text s (m.commit - m.applied) m
 -- what a whole script prints
 unfoldable pub script_text : Setup → List Line → List ℕ
 script_text s lines = turns_text s begin lines ++ last_text s (after s begin lines)
-
--- the texts are lines, and say these
-pub record AreLines (texts : List (List ℕ)) (lines : List Line) : Type 0 where
-  pub each : All IsText texts
-  pub said : Say texts lines
-
--- the text is no line of a script
-abbrev pub IsOutside : List ℕ → Type 0
-IsOutside text = (line : Line) → IsText text → IsLine text line → ⊥

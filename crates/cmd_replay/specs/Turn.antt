@@ -12,9 +12,9 @@ use Rattle.cmd_replay.specs.declared.setup.Setup.{Setup}
 use Rattle.cmd_replay.specs.declared.member.Member.{Member}
 use Rattle.cmd_replay.specs.declared.member.Role.{Role}
 use Rattle.cmd_replay.specs.declared.member.Role.TheVariants.{Candidate, Leader}
-use Rattle.hc_service.specs.Service.{Served, serve}
-use Rattle.hc_service.specs.State.{State, after_write, after_admission}
-use Rattle.hc_service.specs.Replies.{payload_of}
+use Rattle.hc_store.specs.Service.{Served, serve}
+use Rattle.hc_store.specs.State.{State, after_write, after_admission}
+use Rattle.hc_store.specs.Replies.{payload_of}
 use Rattle.hc_log.specs.Log.{blank_of, has_room, stands_in}
 use Rattle.cmd_replay.specs.Durable.{same_vote}
 use Rattle.hc_pool.specs.Pool.{most_pooled, waits_in}

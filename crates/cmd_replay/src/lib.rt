@@ -5,7 +5,6 @@ mod heard;
 pub mod laws;
 mod log_steps;
 mod member;
-mod playback;
 mod print;
 mod queues;
 mod receiving;
@@ -14,7 +13,6 @@ mod replaying;
 mod replies;
 mod running;
 mod setup;
-mod turn;
 mod turns;
 
 pub use replaying::replay;

@@ -1,11 +1,11 @@
-ghost use Rattle.hc_service.specs.Replies.{payload_of};
+ghost use Rattle.hc_store.specs.Replies.{payload_of};
 ghost use Rattle.hc_log.specs.Log.{blank_of, requests_of, MayFollow};
 ghost use Rattle.cmd_replay.specs.Durable.{same_vote};
 ghost use Rattle.cmd_replay.specs.Turn.{entry_of};
 ghost use Rattle.std.specs.Prelude.{◌≡◌, ◌^◌, ℕ, ◌+◌, ◌-◌, ◌<◌, ◌≤◌, ◌++◌, true, false, All, length, take, slice_get, Some, IfOk, OnOk, MatchOption};
 ghost use Rattle.r2_base.specs.Limits.{greatest_number, most_body};
-ghost use Rattle.hc_service.specs.Service.{most_scanned};
-ghost use Rattle.hc_service.specs.State.{most_counted};
+ghost use Rattle.hc_store.specs.Service.{most_scanned};
+ghost use Rattle.hc_store.specs.State.{most_counted};
 ghost use Rattle.hc_log.specs.Ranges.{most_requests};
 
 use crate::heard::Heard;
@@ -14,10 +14,9 @@ use crate::queues::Queues;
 use crate::receiving::receive;
 use crate::replies::policy_of;
 use crate::setup::Setup;
-use crate::turn::Turn;
-use hc_log::{Durable, Log, Record, Stored};
+use hc_log::{Durable, Log, Record, Stored, Turn};
 use hc_pool::{MOST_POOLED, Pool, PutFault, Request};
-use hc_service::{Kv, Reply, Service, payload_of};
+use hc_store::{Kv, Reply, Service, payload_of};
 use r2_base::{
     Addr, Datagram, Datagrams, Entry, Event, GREATEST_NUMBER, Kind, Listed, MOST_ENTRIES,
     NO_REPLIER, NoMemory, Rid,
@@ -68,8 +67,8 @@ pub struct Member {
 impl Member {
     ghost use Rattle.hc_pool.specs.Pool.{MayWait};
     ghost use Rattle.cmd_replay.specs.Member.{anew, begin, own_address, IsSound, IsOrderly};
-    ghost use Rattle.hc_service.specs.Short.{AreShort};
-    ghost use Rattle.cmd_replay.specs.Operations.{IsReplayed};
+    ghost use Rattle.hc_store.specs.Short.{AreShort};
+    ghost use Rattle.hc_service.specs.Entries.{IsReplayed};
     ghost use Rattle.cmd_replay.specs.Replay.{IsAlone};
     ghost use Rattle.cmd_replay.specs.Turn.{batched, due, applied_one, applied_all, batch_of, reported, finished, pooled, resent, request_row, waited, is_impatient, stood, won, ticked, row, order_next, ordered, ordering, counting, settled, stored_of, with_received, reacted_to};
     ghost use Rattle.cmd_replay.specs.Heard.{receive, policy_of, IsShortHeard};

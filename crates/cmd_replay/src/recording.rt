@@ -14,12 +14,11 @@ ghost use Rattle.cmd_replay.specs.Script.{event_of, line_turn, line_text};
 
 use crate::member::Member;
 use crate::setup::Setup;
-use crate::turn::Turn;
 use crate::turns::{WholeTurn, make_turn, print_whole};
 use cmd_script::Line;
 use cmd_status::Status;
 use hc_journal::Records;
-use hc_log::Durable;
+use hc_log::{Durable, Turn};
 use r2_base::{Datagram, Event, NoMemory};
 use r2_link::Sink;
 use std::alloc::Global;

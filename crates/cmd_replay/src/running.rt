@@ -1,9 +1,8 @@
-ghost use Rattle.std.specs.Prelude.{◌≡◌, ◌≤◌, [], ◌∷◌, IfErr, OnOk};
+ghost use Rattle.std.specs.Prelude.{◌≤◌, IfErr, OnOk};
 ghost use Rattle.cmd_replay.specs.Replay.{IsAlone};
 ghost use Rattle.cmd_replay.specs.Records.{IsRecorded};
-ghost use Rattle.cmd_replay.specs.Script.{IsText};
 ghost use Rattle.cmd_status.specs.Stops.{HasSinkCause};
-ghost use Rattle.cmd_replay.specs.Playback.{Ran, StopsText};
+ghost use Rattle.cmd_replay.specs.Running.{Ran, StopsText};
 
 use crate::member::Member;
 use crate::recording::run_line;
@@ -26,9 +25,8 @@ pub(crate) fn run_text<K: Sink>(
 ) -> Result<(), Status>
     requires alone { IsAlone setup.now }
     requires recorded { IsRecorded setup.now member.old records.old }
-    requires text { IsText text.now }
 
-    ensures ran { OnOk result (Ran setup.now member.old member.new (text.now ∷ []) (K.written sink.old) (K.written sink.new)) }
+    ensures ran { OnOk result (Ran setup.now member.old member.new text.now (K.written sink.old) (K.written sink.new)) }
     ensures stays_recorded { OnOk result (IsRecorded setup.now member.new records.new) }
     ensures stops { IfErr result (StopsText setup.now member.old text.now number (K.written sink.old) (K.written sink.new)) }
 

@@ -1,27 +1,31 @@
 -- How a router's run ends, by how its loop ended.
-use Rattle.std.proofs.Common.{◌≡◌, ◌⊎◌, inl, inr, ℕ, List, [], length, Option, refl, sym, ◌∙◌, ap, subst, arith}
+use Rattle.std.proofs.Common.{◌≡◌, ◌⊎◌, inl, inr, ℕ, List, [], length, Option, None, refl, sym, ◌∙◌, ap, subst, arith}
 use Rattle.std.specs.Prelude.{count_by}
 use Rattle.std.specs.Io.KnownBytes.{Appends, Keeps}
-use Rattle.std.proofs.KnownBytes.{Keeps-refl}
 use Rattle.r2_base.specs.declared.datagram.Datagram.{Datagram}
 use Rattle.r2_base.specs.declared.event.Event.{Event}
+use Rattle.r2_link.specs.Faults.{Rose, calm}
 use Rattle.r2_link.specs.Streams.{AppendsFront}
 use Rattle.r2_jbsq.specs.declared.router_setup.RouterSetup.{RouterSetup}
 use Rattle.r2_jbsq.specs.Answer.{history_behind}
 use Rattle.r2_jbsq.specs.History.{is_accept, is_answer, is_forward}
 use Rattle.r2_jbsq.specs.State.{RouterState, StandsFor, begin}
 use Rattle.r2_jbsq.proofs.Runs.{begin-stands}
+use Rattle.cmd_status.specs.Causes.{IsCaused}
 use Rattle.cmd_status.specs.declared.status.Status.{Status}
-use Rattle.cmd_status.specs.declared.status.Status.TheVariants.{Done, Memory, SinkFault, LinkFault, ClockFault, TurnsSpent}
+use Rattle.cmd_status.specs.declared.status.Status.TheVariants.{Done, Memory, SinkFault, LinkFault, DiskFault, ClockFault, TurnsSpent}
 use Rattle.cmd_loop.specs.declared.pace.Pace.{Pace}
-use Rattle.cmd_loop.specs.Loop.{IsServed}
-use Rattle.cmd_loop.proofs.Told.{IsKept-refl, IsKept-trans}
+use Rattle.cmd_loop.specs.Ends.{Ends}
+use Rattle.cmd_loop.specs.Happenings.{events_of}
+use Rattle.cmd_loop.specs.Loop.{IsServed, Rule}
+use Rattle.cmd_loop.specs.Plain.{Unstored}
+use Rattle.cmd_loop.proofs.Weaker.{Gives, serves-calm}
 use Rattle.cmd_router.specs.Routed.{Becomes, RouterSends, sent_behind}
 use Rattle.cmd_router.specs.Totals.{totals_line, totals_text}
-use Rattle.cmd_router.specs.Twins.{Around, IsUntouched, RunsOnTwin}
-use Rattle.cmd_router.specs.Routes.{IsWholeRun, Routes, TellsFront, TellsTotals}
+use Rattle.cmd_router.specs.Twins.{RunsOnTwin}
+use Rattle.cmd_router.specs.Routes.{IsWholeRun, Routes, RoutesAndTells, RoutesOnTwin, TellsFront, TellsTotals}
 use Rattle.cmd_router.proofs.Routed.{counted-all}
-use Rattle.cmd_router.proofs.Twins.{on-twin-from, on-twin-weaker}
+use Rattle.cmd_router.proofs.Twins.{on-twin-kept, on-twin-weaker}
 
 -- what a new router sent, and its line of totals
 abbrev pub Counted : RouterSetup → List ℕ → List Event → List Datagram → Type 0
@@ -52,7 +56,7 @@ new-counted setup old new n m events sends begun zero becomes =
           (behind.answered ∙ ap (λ (s : RouterSetup). count_by is_answer (history_behind s [] events)) same),
     )
 
--- the totals were told, or a front of them
+-- the totals were told, or a prefix of them
 whole-told : (setup : RouterSetup) (line : List ℕ) (w w' : Option (List ℕ)) → Appends w w' line → (events : List Event) (sends : List Datagram)
     → Counted setup line events sends → TellsTotals setup w w' events sends
 whole-told setup line w w' gave events sends counted = (counted.0, subst (λ (l : List ℕ). Appends w w' l) counted.1 gave)
@@ -61,81 +65,65 @@ front-told : (setup : RouterSetup) (line : List ℕ) (w w' : Option (List ℕ)) 
     → Counted setup line events sends → TellsFront setup w w' events sends
 front-told setup line w w' gave events sends counted = (counted.0, subst (λ (l : List ℕ). AppendsFront w w' l) counted.1 gave)
 
+-- a rule on the events that follows from another, where nothing is stored
+pub unstored-gives : (S S' : List Event → List Datagram → Type 0) → ((events : List Event) (sends : List Datagram) → S events sends → S' events sends)
+    → Gives (Unstored S) (Unstored S')
+unstored-gives S S' on happened stored sends right = (right.0, on (events_of happened) sends right.1)
+
+-- a router's loop by a weaker rule
+routes-weaker : (W W' : List Event → List Datagram → Type 0) → ((events : List Event) (sends : List Datagram) → W events sends → W' events sends)
+    → (setup : RouterSetup) (pace : Pace) (a b : Ends) (status : Status) → RoutesOnTwin W setup pace a b status → RoutesOnTwin W' setup pace a b status
+routes-weaker W W' whole setup pace a b status runs =
+    on-twin-weaker (Unstored W) (Unstored W') (Unstored W) (Unstored W') (Unstored (RouterSends setup)) (Unstored (RouterSends setup))
+    (unstored-gives W W' whole) (unstored-gives W W' whole) (λ happened stored sends right. right) pace a b status runs
+
 -- what was told of a loop that ended so
 abbrev pub Told : List ℕ → Option (List ℕ) → Option (List ℕ) → Status → Status → Type 0
 Told line w w' ended result =
     ((result ≡ ended) × Appends w w' line) ⊎ ((result ≡ SinkFault) × AppendsFront w w' line)
 
-module _ (setup : RouterSetup) (pace : Pace) (line : List ℕ) (a b : Around) (w w' : Option (List ℕ)) where
-  -- a front of the totals, behind either end
-  front-routes : (ended : Status) → IsWholeRun ended → RunsOnTwin (Counted setup line) (RouterSends setup) pace a b ended → AppendsFront w w' line
-      → Routes setup pace a b w w' SinkFault
-  front-routes ended whole runs front =
-      (ended, whole, on-twin-weaker (Counted setup line) (TellsFront setup w w') (RouterSends setup) (RouterSends setup) (front-told setup line w w' front) (λ e s r. r) pace a b ended runs)
+module _ (setup : RouterSetup) (pace : Pace) (line : List ℕ) (a b : Ends) where
+  -- the totals, or a prefix of them, after either end
+  told-routes : (ended result : Status) → IsWholeRun ended → RoutesAndTells (Counted setup line) setup pace a b ended → Told line a.written b.written ended result
+      → ((result ≡ ended) × RoutesAndTells (TellsTotals setup a.written b.written) setup pace a b ended) ⊎ ((result ≡ SinkFault) × Routes setup pace a b SinkFault)
+  told-routes ended result whole runs (inl told) =
+      inl (told.0, routes-weaker (Counted setup line) (TellsTotals setup a.written b.written) (whole-told setup line a.written b.written told.1) setup pace a (record b { written = a.written }) ended runs)
+  told-routes ended result whole runs (inr cut) =
+      inr (cut.0, (ended, whole, routes-weaker (Counted setup line) (TellsFront setup a.written b.written) (front-told setup line a.written b.written cut.1) setup pace a (record b { written = a.written }) ended runs))
 
-  told-done : (result : Status) → RunsOnTwin (Counted setup line) (RouterSends setup) pace a b Done → Told line w w' Done result → Routes setup pace a b w w' result
-  told-done result runs (inl told) =
-      subst (Routes setup pace a b w w') (sym told.0)
-      (on-twin-weaker (Counted setup line) (TellsTotals setup w w') (RouterSends setup) (RouterSends setup) (whole-told setup line w w' told.1) (λ e s r. r) pace a b Done runs)
-  told-done result runs (inr cut) = subst (Routes setup pace a b w w') (sym cut.0) (front-routes Done tt runs cut.1)
+  told-done : (result : Status) → ((result ≡ Done) × Routes setup pace a b Done) ⊎ ((result ≡ SinkFault) × Routes setup pace a b SinkFault) → Routes setup pace a b result
+  told-done result (inl told) = subst (Routes setup pace a b) (sym told.0) told.1
+  told-done result (inr cut) = subst (Routes setup pace a b) (sym cut.0) cut.1
 
-  told-spent : (result : Status) → RunsOnTwin (Counted setup line) (RouterSends setup) pace a b TurnsSpent → Told line w w' TurnsSpent result → Routes setup pace a b w w' result
-  told-spent result runs (inl told) =
-      subst (Routes setup pace a b w w') (sym told.0)
-      (on-twin-weaker (Counted setup line) (TellsTotals setup w w') (RouterSends setup) (RouterSends setup) (whole-told setup line w w' told.1) (λ e s r. r) pace a b TurnsSpent runs)
-  told-spent result runs (inr cut) = subst (Routes setup pace a b w w') (sym cut.0) (front-routes TurnsSpent tt runs cut.1)
+  told-spent : (result : Status) → ((result ≡ TurnsSpent) × Routes setup pace a b TurnsSpent) ⊎ ((result ≡ SinkFault) × Routes setup pace a b SinkFault) → Routes setup pace a b result
+  told-spent result (inl told) = subst (Routes setup pace a b) (sym told.0) told.1
+  told-spent result (inr cut) = subst (Routes setup pace a b) (sym cut.0) cut.1
 
   -- a loop that something ended early
-  untold : (ended : Status) → RunsOnTwin (Counted setup line) (RouterSends setup) pace a b ended → RunsOnTwin (RouterSends setup) (RouterSends setup) pace a b ended
-  untold ended runs = on-twin-weaker (Counted setup line) (RouterSends setup) (RouterSends setup) (RouterSends setup) (λ e s r. r.0) (λ e s r. r) pace a b ended runs
+  untold : (ended : Status) → RoutesAndTells (Counted setup line) setup pace a b ended → Keeps a.written b.written → RoutesOnTwin (RouterSends setup) setup pace a b ended
+  untold ended runs kept =
+      on-twin-kept (Unstored (RouterSends setup)) (Unstored (RouterSends setup)) (Unstored (RouterSends setup)) pace a (record b { written = a.written }) b.written ended kept
+      (routes-weaker (Counted setup line) (RouterSends setup) (λ events sends counted. counted.0) setup pace a (record b { written = a.written }) ended runs)
 
-  pub routes-of : (ended result : Status) → RunsOnTwin (Counted setup line) (RouterSends setup) pace a b ended
-      → ((IsWholeRun ended → ⊥) → (result ≡ ended) × Keeps w w') → (IsWholeRun ended → Told line w w' ended result)
-      → Routes setup pace a b w w' result
-  routes-of Done result runs kept told = told-done result runs (told tt)
-  routes-of TurnsSpent result runs kept told = told-spent result runs (told tt)
-  routes-of LinkFault result runs kept told =
-      subst (Routes setup pace a b w w') (sym (kept (λ x. x)).0) (inr (untold LinkFault runs, (kept (λ x. x)).1))
-  routes-of Memory result runs kept told =
-      subst (Routes setup pace a b w w') (sym (kept (λ x. x)).0) (inr (untold Memory runs, (kept (λ x. x)).1))
-  routes-of ClockFault result runs kept told =
-      subst (Routes setup pace a b w w') (sym (kept (λ x. x)).0) (untold ClockFault runs, (kept (λ x. x)).1)
-  routes-of _ result runs kept told = absurd runs.served.ended
+  pub routes-of : (ended result : Status) → RoutesAndTells (Counted setup line) setup pace a b ended
+      → ((IsWholeRun ended → ⊥) → (result ≡ ended) × Keeps a.written b.written) → (IsWholeRun ended → Told line a.written b.written ended result)
+      → (ended ≡ DiskFault → ⊥) → Routes setup pace a b result
+  routes-of Done result runs kept told no_disk = told-done result (told-routes Done result tt runs (told tt))
+  routes-of TurnsSpent result runs kept told no_disk = told-spent result (told-routes TurnsSpent result tt runs (told tt))
+  routes-of LinkFault result runs kept told no_disk =
+      let early = kept (λ x. x) in subst (Routes setup pace a b) (sym early.0) (inr (untold LinkFault runs early.1))
+  routes-of Memory result runs kept told no_disk =
+      let early = kept (λ x. x) in subst (Routes setup pace a b) (sym early.0) (inr (untold Memory runs early.1))
+  routes-of ClockFault result runs kept told no_disk =
+      let early = kept (λ x. x) in subst (Routes setup pace a b) (sym early.0) (untold ClockFault runs early.1)
+  routes-of DiskFault result runs kept told no_disk = absurd (no_disk refl)
+  routes-of _ result runs kept told no_disk = absurd runs.served.ended
 
 -- without a fault a run comes to its end, or memory runs out
-pub ends-well : (setup : RouterSetup) (pace : Pace) (a b : Around) (w w' : Option (List ℕ)) (status : Status) (link clock sink : Type 0)
-    → Routes setup pace a b w w' status → (status ≡ LinkFault → link) → (status ≡ ClockFault → clock) → (status ≡ SinkFault → sink)
-    → (link → ⊥) → (clock → ⊥) → (sink → ⊥) → IsServed status
-ends-well setup pace a b w w' Done link clock sink routes l c s no_l no_c no_s = tt
-ends-well setup pace a b w w' TurnsSpent link clock sink routes l c s no_l no_c no_s = tt
-ends-well setup pace a b w w' Memory link clock sink routes l c s no_l no_c no_s = tt
-ends-well setup pace a b w w' LinkFault link clock sink routes l c s no_l no_c no_s = absurd (no_l (l refl))
-ends-well setup pace a b w w' ClockFault link clock sink routes l c s no_l no_c no_s = absurd (no_c (c refl))
-ends-well setup pace a b w w' SinkFault link clock sink routes l c s no_l no_c no_s = absurd (no_s (s refl))
-ends-well setup pace a b w w' _ link clock sink routes l c s no_l no_c no_s = absurd routes
-
--- a run of a router on a link to which nothing was done before
-untouched-then : (a b c : Around) → IsUntouched a b → IsUntouched b c → IsUntouched a c
-untouched-then a b c p q = record {
-  lanes = IsKept-trans a.lanes b.lanes c.lanes p.lanes q.lanes;
-  sent = IsKept-trans a.sent b.sent c.sent p.sent q.sent;
-  clock = IsKept-trans a.clock b.clock c.clock p.clock q.clock;
-}
-
-pub routes-from : (setup : RouterSetup) (pace : Pace) (a b c : Around) (w w' : Option (List ℕ)) (status : Status)
-    → IsUntouched a b → Routes setup pace b c w w' status → Routes setup pace a c w w' status
-routes-from setup pace a b c w w' Done kept runs = on-twin-from (TellsTotals setup w w') (RouterSends setup) pace a b c Done kept runs
-routes-from setup pace a b c w w' TurnsSpent kept runs = on-twin-from (TellsTotals setup w w') (RouterSends setup) pace a b c TurnsSpent kept runs
-routes-from setup pace a b c w w' SinkFault kept runs =
-    (runs.0, runs.1, on-twin-from (TellsFront setup w w') (RouterSends setup) pace a b c runs.0 kept runs.2)
-routes-from setup pace a b c w w' LinkFault kept (inl none) = inl (untouched-then a b c kept none.0, none.1)
-routes-from setup pace a b c w w' LinkFault kept (inr runs) = inr (on-twin-from (RouterSends setup) (RouterSends setup) pace a b c LinkFault kept runs.0, runs.1)
-routes-from setup pace a b c w w' Memory kept (inl none) = inl (untouched-then a b c kept none.0, none.1)
-routes-from setup pace a b c w w' Memory kept (inr runs) = inr (on-twin-from (RouterSends setup) (RouterSends setup) pace a b c Memory kept runs.0, runs.1)
-routes-from setup pace a b c w w' ClockFault kept runs = (on-twin-from (RouterSends setup) (RouterSends setup) pace a b c ClockFault kept runs.0, runs.1)
-routes-from setup pace a b c w w' _ kept runs = absurd runs
-
--- without memory for anything nothing was done
-pub routes-nothing : (setup : RouterSetup) (pace : Pace) (a : Around) (w : Option (List ℕ)) → Routes setup pace a a w w Memory
-routes-nothing setup pace a w =
-    inl (record { lanes = IsKept-refl a.lanes; sent = IsKept-refl a.sent; clock = IsKept-refl a.clock }, Keeps-refl w)
+pub ends-well : (D W S : Rule) (pace : Pace) (a b : Ends) (l l' c c' : ℕ) (sink : Type 0) (ended result : Status) → RunsOnTwin D W S pace a b ended
+    → IsCaused (record calm { link = l; clock = c }) (record calm { link = l'; clock = c' }) ended → (result ≡ ended) ⊎ ((result ≡ SinkFault) × sink)
+    → (Rose l l' → ⊥) → (Rose c c' → ⊥) → (sink → ⊥) → IsServed result
+ends-well D W S pace a b l l' c c' sink ended result runs caused (inl same) no_link no_clock no_sink =
+    subst IsServed (sym same) (serves-calm D W S pace (record a { link = record a.link { left = runs.first; lanes = None } })
+    (record b { link = record b.link { left = runs.last; lanes = None } }) l l' c c' ended runs.served caused no_link no_clock)
+ends-well D W S pace a b l l' c c' sink ended result runs caused (inr cut) no_link no_clock no_sink = absurd (no_sink cut.1)

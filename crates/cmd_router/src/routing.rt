@@ -2,10 +2,11 @@ ghost use Rattle.std.specs.Prelude.{◌≡◌, ◌⊎◌, ◌≤◌, length};
 ghost use Rattle.std.specs.Io.KnownBytes.{Appends, Keeps};
 ghost use Rattle.r2_base.specs.Limits.{most_turns};
 ghost use Rattle.r2_jbsq.specs.Limits.{greatest_n, most_servers};
-ghost use Rattle.r2_link.specs.Faults.{Rose};
+ghost use Rattle.r2_link.specs.Faults.{NoneFalls, Rose, calm};
 ghost use Rattle.r2_link.specs.Streams.{AppendsFront};
-ghost use Rattle.r2_link.specs.Told.{IsKept};
-ghost use Rattle.cmd_status.specs.declared.status.Status.TheVariants.{SinkFault, LinkFault as LinkFaultSpec, ClockFault};
+ghost use Rattle.cmd_status.specs.Causes.{IsCaused};
+ghost use Rattle.cmd_status.specs.declared.status.Status.TheVariants.{SinkFault};
+ghost use Rattle.cmd_loop.specs.Ends.{Ends};
 ghost use Rattle.cmd_loop.specs.Loop.{IsServed};
 ghost use Rattle.cmd_router.specs.Routes.{IsWholeRun, Routes};
 ghost use Rattle.cmd_router.specs.Totals.{totals_line};
@@ -13,7 +14,7 @@ ghost use Rattle.cmd_router.specs.Totals.{totals_line};
 use crate::on_twin::serve_on_twin;
 use crate::router_totals::{RouterTotals, write_totals};
 use crate::routing_party::RoutingParty;
-use cmd_loop::Pace;
+use cmd_loop::{Pace, Plain};
 use cmd_status::Status;
 use r2_base::{Addr, Addrs};
 use r2_link::{Clock, LinkFault, Sink, Twin};
@@ -44,28 +45,25 @@ pub fn serve_router<K: Sink, L: Twin, C: Clock>(
     requires turns { pace.turns ≤ most_turns }
 
     // What was received and sent on the twin, and what was printed.
-    ensures ran { Routes (record { me = me; servers = servers; n = n }) pace
-        (record { lanes = L.lanes link.old; sent = L.sent link.old; clock = C.left clock.old })
-        (record { lanes = L.lanes link.new; sent = L.sent link.new; clock = C.left clock.new }) (K.written sink.old) (K.written sink.new) result }
+    ensures ran { (o : Ends) → Routes (record { me = me; servers = servers; n = n }) pace
+        (record o { written = K.written sink.old; link = L.told link.old; clock = C.left clock.old })
+        (record o { written = K.written sink.new; link = L.told link.new; clock = C.left clock.new }) result }
 
     // Where neither the link nor the clock nor the sink failed, the twin ended, all receives were made, or memory ran out.
     ensures complete { (Rose (L.faults link.old) (L.faults link.new) → ⊥) → (Rose (C.faults clock.old) (C.faults clock.new) → ⊥)
         → (Rose (K.faults sink.old) (K.faults sink.new) → ⊥) → IsServed result }
 
-    ensures left { IsKept (L.left link.old) (L.left link.new) }
-    ensures sink_fault { result ≡ SinkFault → Rose (K.faults sink.old) (K.faults sink.new) }
-    ensures link_fault { result ≡ LinkFaultSpec → Rose (L.faults link.old) (L.faults link.new) }
-    ensures clock_fault { result ≡ ClockFault → Rose (C.faults clock.old) (C.faults clock.new) }
-    ensures sink_steady { K.faults sink.old ≤ K.faults sink.new }
-    ensures link_steady { L.faults link.old ≤ L.faults link.new }
-    ensures clock_steady { C.faults clock.old ≤ C.faults clock.new }
+    ensures caused { IsCaused (record calm { sink = K.faults sink.old; link = L.faults link.old; clock = C.faults clock.old })
+        (record calm { sink = K.faults sink.new; link = L.faults link.new; clock = C.faults clock.new }) result }
+    ensures steady { NoneFalls (record calm { sink = K.faults sink.old; link = L.faults link.old; clock = C.faults clock.old })
+        (record calm { sink = K.faults sink.new; link = L.faults link.new; clock = C.faults clock.new }) }
 {
     let Ok(party) = RoutingParty::new(alloc, me, servers, n) else {
         return Status::Memory;
     };
-    let mut party = party;
+    let mut party = Plain { party };
     match serve_on_twin(alloc, &mut party, link, clock, pace) {
-        Ok(ended) => tell_end(sink, party.totals(), ended),
+        Ok(ended) => tell_end(sink, party.party.totals(), ended),
         Err(LinkFault::Failed) => Status::LinkFault,
         Err(LinkFault::Memory) => Status::Memory,
     }
@@ -77,7 +75,7 @@ fn tell_end<K: Sink>(sink: &mut K, totals: RouterTotals, ended: Status) -> Statu
     ensures told { IsWholeRun ended
         → ((result ≡ ended) × Appends (K.written sink.old) (K.written sink.new) (totals_line totals.turns totals.accepted totals.forwarded totals.answered))
         ⊎ ((result ≡ SinkFault) × AppendsFront (K.written sink.old) (K.written sink.new) (totals_line totals.turns totals.accepted totals.forwarded totals.answered)) }
-    ensures cause { result ≡ SinkFault → (ended ≡ SinkFault) ⊎ Rose (K.faults sink.old) (K.faults sink.new) }
+    ensures cause { (result ≡ ended) ⊎ ((result ≡ SinkFault) × Rose (K.faults sink.old) (K.faults sink.new)) }
     ensures steady { K.faults sink.old ≤ K.faults sink.new }
 {
     match ended {

@@ -4,7 +4,7 @@ ghost use Rattle.r2_jbsq.specs.State.{HadTurns, begin};
 ghost use Rattle.cmd_router.specs.Routed.{Becomes, becomes_none};
 
 use crate::router_totals::RouterTotals;
-use cmd_loop::Party;
+use cmd_loop::PlainParty;
 use r2_base::{Addr, Addrs, Datagrams, Event, NoMemory};
 use r2_jbsq::Router;
 use std::alloc::Global;
@@ -16,7 +16,7 @@ pub(crate) struct RoutingParty {
     turns: u64,
 }
 
-impl Party for RoutingParty {
+impl PlainParty for RoutingParty {
     ghost turned = { λ a events sends b. Becomes a.router a.turns events sends b.router b.turns };
 
     ghost had_turns = { λ n a. HadTurns n a.router × (a.turns ≤ n) };

@@ -7,7 +7,7 @@ use Rattle.r2_base.specs.declared.event.Event.{Event}
 use Rattle.r2_server.specs.State.{ServerState, begin}
 use Rattle.r2_server.specs.Sound.{CanTurn, HadTurns}
 use Rattle.r2_server.specs.Turn.{turned, turned_all}
-use Rattle.cmd_loop.specs.Party.{Turns}
+use Rattle.cmd_loop.specs.Plain.{PlainTurns}
 use Rattle.cmd_server.specs.Plain.{Becomes, PlainSends}
 
 -- the turn of one event more
@@ -27,7 +27,7 @@ sends-more s (first ∷ events) event =
 
 pub becomes_more : (old new : Option ServerState) (event : Event) (sends : List Datagram)
     → ((s : ServerState) → old ≡ Some s → new ≡ Some (turned s event).server) → ((s : ServerState) → old ≡ Some s → sends ≡ (turned s event).sends)
-    → Turns Becomes old new (event ∷ []) sends
+    → PlainTurns Becomes old new (event ∷ []) sends
 becomes_more old new event sends state gives first events sent before s is =
     let now = before s is in
     let t = (turned_all s events).server in (

@@ -3,7 +3,7 @@
 use crate::serve_plain;
 use cmd_loop::Pace;
 use cmd_status::Status;
-use hc_service::Kv;
+use hc_store::Kv;
 use r2_base::{Addr, Bytes, Datagram, NoMemory, Numbers, Room};
 use r2_link::{Item, Items, Lane, Lanes, MemClock, MemLink};
 use std::alloc::Global;

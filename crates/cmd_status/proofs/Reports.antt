@@ -6,7 +6,7 @@ use Rattle.r2_link.specs.Streams.{AppendsFront}
 use Rattle.r2_link.proofs.Faults.{then-Rose}
 use Rattle.r2_link.proofs.Streams.{Appends-nil, Appends-trans, AppendsFront-longer, AppendsFront-then}
 use Rattle.cmd_status.specs.declared.status.Status.{Status}
-use Rattle.cmd_status.specs.declared.status.Status.TheVariants.{Done, BadWords, BadScript, Memory, SourceFault, SinkFault, LinkFault, ClockFault, TimedOut, IdsUsed, TurnsSpent}
+use Rattle.cmd_status.specs.declared.status.Status.TheVariants.{Done, BadWords, BadScript, Memory, SourceFault, SinkFault, LinkFault, DiskFault, ClockFault, TimedOut, IdsUsed, TurnsSpent}
 use Rattle.cmd_status.specs.Texts.{cause_text, error_text}
 use Rattle.cmd_status.specs.Stops.{StopsBySink, HasSinkCause}
 
@@ -39,6 +39,7 @@ error_text-line Memory other = refl
 error_text-line SourceFault other = refl
 error_text-line SinkFault other = refl
 error_text-line LinkFault other = refl
+error_text-line DiskFault other = refl
 error_text-line ClockFault other = refl
 error_text-line TimedOut other = refl
 error_text-line IdsUsed other = refl
@@ -61,6 +62,7 @@ then_stops a b c Done on never = never
 then_stops a b c BadWords on never = never
 then_stops a b c SourceFault on never = never
 then_stops a b c LinkFault on never = never
+then_stops a b c DiskFault on never = never
 then_stops a b c ClockFault on never = never
 then_stops a b c TimedOut on never = never
 then_stops a b c IdsUsed on never = never
@@ -75,6 +77,7 @@ sink_cause f f' Done why = tt
 sink_cause f f' BadWords why = tt
 sink_cause f f' SourceFault why = tt
 sink_cause f f' LinkFault why = tt
+sink_cause f f' DiskFault why = tt
 sink_cause f f' ClockFault why = tt
 sink_cause f f' TimedOut why = tt
 sink_cause f f' IdsUsed why = tt

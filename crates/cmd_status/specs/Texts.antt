@@ -2,7 +2,7 @@
 use Rattle.std.specs.Prelude.{ℕ, List, [], ◌∷◌, ◌++◌, codes}
 use Rattle.std.specs.Fmt.{decimal}
 use Rattle.cmd_status.specs.declared.status.Status.{Status}
-use Rattle.cmd_status.specs.declared.status.Status.TheVariants.{Done, BadWords, BadScript, Memory, SourceFault, SinkFault, LinkFault, ClockFault, TimedOut, IdsUsed, TurnsSpent}
+use Rattle.cmd_status.specs.declared.status.Status.TheVariants.{Done, BadWords, BadScript, Memory, SourceFault, SinkFault, LinkFault, DiskFault, ClockFault, TimedOut, IdsUsed, TurnsSpent}
 
 -- a status as the program's exit code
 abbrev pub code_of : Status → ℕ
@@ -13,6 +13,7 @@ code_of Memory = 70
 code_of SourceFault = 71
 code_of SinkFault = 72
 code_of LinkFault = 73
+code_of DiskFault = 74
 code_of ClockFault = 75
 code_of TimedOut = 76
 code_of IdsUsed = 77
@@ -27,6 +28,7 @@ cause_text Memory = codes "out of memory"
 cause_text SourceFault = codes "the source failed"
 cause_text SinkFault = codes "the sink failed"
 cause_text LinkFault = codes "the link failed"
+cause_text DiskFault = codes "the disk failed"
 cause_text ClockFault = codes "the clock failed"
 cause_text TimedOut = codes "no answer"
 cause_text IdsUsed = codes "request ids used up"

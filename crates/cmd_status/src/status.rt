@@ -28,6 +28,8 @@ pub enum Status {
     SinkFault,
     /// A socket couldn't be opened, or failed to send or to receive.
     LinkFault,
+    /// A record couldn't be stored.
+    DiskFault,
     /// The time couldn't be read.
     ClockFault,
     /// A request was sent as often as it may be, and no reply came.
@@ -51,6 +53,7 @@ impl Status {
             Status::SourceFault => 71,
             Status::SinkFault => 72,
             Status::LinkFault => 73,
+            Status::DiskFault => 74,
             Status::ClockFault => 75,
             Status::TimedOut => 76,
             Status::IdsUsed => 77,
@@ -71,6 +74,7 @@ impl fmt::Display for Status {
             Status::SourceFault => f.write_str("the source failed"),
             Status::SinkFault => f.write_str("the sink failed"),
             Status::LinkFault => f.write_str("the link failed"),
+            Status::DiskFault => f.write_str("the disk failed"),
             Status::ClockFault => f.write_str("the clock failed"),
             Status::TimedOut => f.write_str("no answer"),
             Status::IdsUsed => f.write_str("request ids used up"),
@@ -127,6 +131,7 @@ fn write_cause<E: Sink>(errors: &mut E, status: Status) -> Result<(), Failed>
         Status::SourceFault => write_all(errors, b"the source failed"),
         Status::SinkFault => write_all(errors, b"the sink failed"),
         Status::LinkFault => write_all(errors, b"the link failed"),
+        Status::DiskFault => write_all(errors, b"the disk failed"),
         Status::ClockFault => write_all(errors, b"the clock failed"),
         Status::TimedOut => write_all(errors, b"no answer"),
         Status::IdsUsed => write_all(errors, b"request ids used up"),
@@ -164,7 +169,7 @@ mod tests {
     use r2_link::MemSink;
     use std::test::Fail;
 
-    const ENDS: [(Status, u8, &[u8]); 11] = [
+    const ENDS: [(Status, u8, &[u8]); 12] = [
         (Status::Done, 0, b""),
         (Status::BadWords, 64, b"r2p2_suite: words not understood\n"),
         (
@@ -176,6 +181,7 @@ mod tests {
         (Status::SourceFault, 71, b"r2p2_suite: the source failed\n"),
         (Status::SinkFault, 72, b"r2p2_suite: the sink failed\n"),
         (Status::LinkFault, 73, b"r2p2_suite: the link failed\n"),
+        (Status::DiskFault, 74, b"r2p2_suite: the disk failed\n"),
         (Status::ClockFault, 75, b"r2p2_suite: the clock failed\n"),
         (Status::TimedOut, 76, b"r2p2_suite: no answer\n"),
         (Status::IdsUsed, 77, b"r2p2_suite: request ids used up\n"),

@@ -1,4 +1,4 @@
-ghost use Rattle.std.specs.Prelude.{◌≡◌, ℕ, List, [], ◌∷◌, Option, ◌≤◌, Err, OnOk, OnErr};
+ghost use Rattle.std.specs.Prelude.{◌≡◌, ℕ, List, [], ◌∷◌, Option, None, ◌≤◌, Err, OnOk, OnErr};
 ghost use Rattle.r2_link.specs.Faults.{Rose};
 ghost use Rattle.r2_link.specs.Told.{IsKept, Gains};
 ghost use Rattle.hc_log.specs.declared.record.Record.{Record};
@@ -33,7 +33,7 @@ pub enum JournalFault {
 
 /// Where a replica's records are kept over a crash (Raft, figure 2: stable storage is updated before an answer).
 pub trait Journal: Drop {
-    /// The records that were acknowledged, the first one first, where the journal reports them.
+    /// The records that were acknowledged, the first one first, where the journal reports them. One that doesn't never begins to.
     ghost records: { Self → Option (List Record) };
 
     /// Why the journal has ended, where it has.
@@ -51,6 +51,7 @@ pub trait Journal: Drop {
         requires next { FitsTold (records self.old) r.now }
         ensures stored { OnOk result (Gains (records self.old) (records self.new) (r.now ∷ [])) }
         ensures kept { OnErr result (IsKept (records self.old) (records self.new)) }
+        ensures silent { records self.old ≡ None → records self.new ≡ None }
         ensures end { EndsAs (ended self.old) (ended self.new) result }
         ensures steady { faults self.old ≤ faults self.new }
         ensures cause { result ≡ Err JournalFault.Disk → Rose (faults self.old) (faults self.new) };

@@ -77,6 +77,7 @@ impl Journal for MemJournal {
         requires next { FitsTold (Some self.old.records) r.now }
         ensures stored { OnOk result (Gains (Some self.old.records) (Some self.new.records) (r.now ∷ [])) }
         ensures kept { OnErr result (IsKept (Some self.old.records) (Some self.new.records)) }
+        ensures silent { Some self.old.records ≡ None → Some self.new.records ≡ None }
         ensures end { EndsAs self.old.ended self.new.ended result }
         ensures steady { self.old.faults ≤ self.new.faults }
         ensures cause { result ≡ Err JournalFault.Disk → Rose self.old.faults self.new.faults }

@@ -13,6 +13,7 @@ mod stored;
 #[cfg(test)]
 mod tests;
 mod totals;
+mod turn;
 
 pub use durable::Durable;
 pub use follow_fault::FollowFault;
@@ -20,3 +21,4 @@ pub use limits::{MOST_BODY_BYTES, MOST_REQUESTS};
 pub use log::Log;
 pub use record::Record;
 pub use stored::{Entries, Stored};
+pub use turn::Turn;

@@ -1,9 +1,9 @@
 -- Looking for a request by its id, and taking it out.
-use Rattle.std.proofs.Common.{◌≡◌, ◌≢◌, ◌<◌, ◌≤◌, ℕ, zero, suc, Bool, true, false, not, ltb, List, [], ◌∷◌, ◌++◌, length, get_or, take, drop, Some, None, is_some, inl, inr, ap, sym, ◌∙◌, refl, arith}
-use Rattle.std.specs.List.{filter, position, position_or_len, slice_get, remove}
+use Rattle.std.proofs.Common.{◌≡◌, ◌≢◌, ◌<◌, ◌≤◌, ℕ, zero, suc, Bool, true, false, not, ltb, List, [], ◌∷◌, ◌++◌, length, get_or, take, drop, Some, None, is_some, inl, inr, ap, sym, subst, ◌∙◌, refl, arith}
+use Rattle.std.specs.List.{All, filter, position, position_or_len, slice_get, remove}
 use Rattle.std.proofs.lemmas.Bool.{cases_Bool, cases_order, false≢true, ltb-false}
 use Rattle.std.proofs.lemmas.List.Elements.{All-push, All-append, All-take, All-drop}
-use Rattle.std.proofs.lemmas.List.Folds.{find_at, list_any_at}
+use Rattle.std.proofs.lemmas.List.Folds.{find_at, list_any_at, list_any_none}
 use Rattle.std.proofs.lemmas.List.Sums.{fails_before_first}
 use Rattle.std.proofs.lemmas.List.Quantifiers.{all_pairs_push, all_pairs_remove, position-Some}
 use Rattle.std.proofs.lemmas.List.{get_or_default}
@@ -154,3 +154,28 @@ waits-from_None rid pool none = ap is_some (sym none) ∙ found_waits rid pool
 
 pub waits-from_Some : (rid : Rid) (pool : List Request) (r : Request) → request_of rid pool ≡ Some r → true ≡ waits_in rid pool
 waits-from_Some rid pool r some = ap is_some (sym some) ∙ found_waits rid pool
+
+-- what is found may wait
+pub found_fits : (rid : Rid) (pool : List Request) (r : Request) → All MayWait pool → request_of rid pool ≡ Some r → MayWait r
+unfolding request_of
+found_fits rid [] r each e = cc
+found_fits rid (x ∷ xs) r each e =
+    elim (cases_Bool (has_rid rid x)) [
+      | inl t ↦ (let same : x ≡ r = (let found = rw t at e in cc) in subst MayWait same (each 0 x (omega arith)))
+      | inr f ↦ found_fits rid xs r (λ k d h. each (suc k) d (omega arith)) (rw f at e)
+    ]
+
+-- no other request has the id of the first
+pub first_once : (r : Request) (later : List Request) → IsPool (r ∷ later) → waits_in r.rid later ≡ false
+unfolding waits_in
+first_once r later sound =
+    list_any_none (has_rid r.rid) later (λ k d h.
+    elim (cases_Bool (has_rid r.rid (get_or later k d))) [
+      | inr f ↦ f
+      | inl t ↦ absurd (sound.ids 0 (suc k) d (omega arith) (omega arith) (same_rid-true r.rid (get_or later k d).rid t))
+    ])
+
+-- nor once that one is taken out
+pub once-removed : (pool : List Request) (r : Request) → IsPool pool → 0 < length pool → r ≡ get_or pool 0 r → waits_in r.rid (remove pool 0) ≡ false
+once-removed [] r sound some is = absurd (omega arith)
+once-removed (x ∷ xs) r sound some is = rw is (first_once x xs sound)

@@ -1,6 +1,6 @@
-ghost use Rattle.std.specs.Prelude.{◌≡◌, ◌≤◌, ◌<◌, ◌↔◌, ◌==◌, ◌++◌, ◌∷◌, [], false, true, length, position, MatchOption, is_some, option_copied, OnOk, OnErr, Err};
+ghost use Rattle.std.specs.Prelude.{◌≡◌, ◌≤◌, ◌<◌, ◌↔◌, ◌==◌, ◌++◌, ◌∷◌, [], false, true, length, position, slice_get, MatchOption, IfSome, Some, is_some, option_copied, OnOk, OnErr, Err};
 ghost use Rattle.r2_base.specs.Entry.{is_request};
-ghost use Rattle.hc_pool.specs.Pool.{has_rid, waits_in, request_of, without, oldest_of, most_pooled, IsPool};
+ghost use Rattle.hc_pool.specs.Pool.{has_rid, waits_in, request_of, without, oldest_of, most_pooled, IsPool, MayWait};
 ghost use Rattle.r2_base.specs.Limits.{most_body};
 
 use crate::{PutFault, Request};
@@ -74,6 +74,25 @@ impl Pool {
         Some(request.rid)
     }
 
+    /// The request that was put first.
+    pub fn first(&self) -> Option<&Request>
+        ensures { MatchOption result (self.now ≡ []) (λ r. slice_get self.now 0 ≡ Some r.now) }
+    {
+        self.requests.first()
+    }
+
+    /// Takes out the request that was put first. The order of the others stays.
+    pub fn take_first(&mut self) -> Option<Request>
+        ensures first { MatchOption result ((self.old ≡ []) × (self.new ≡ [])) (λ r. self.old ≡ r ∷ self.new) }
+        ensures fits { IfSome result MayWait }
+        ensures once { IfSome result (λ r. waits_in r.rid self.new ≡ false) }
+    {
+        if self.requests.is_empty() {
+            return None;
+        }
+        Some(self.requests.remove(0))
+    }
+
     /// Puts a client's request after the others, if fewer than `MOST_POOLED` wait.
     pub fn put(&mut self, rid: Rid, kind: Kind, body: Bytes) -> Result<(), PutFault>
         requires is_new { waits_in rid self.old ≡ false }
@@ -105,6 +124,7 @@ impl Pool {
     /// Takes the request with this id out. The order of the others stays.
     pub fn take(&mut self, rid: &Rid) -> Option<(Kind, Bytes)>
         ensures taken { MatchOption result (request_of rid.now self.old ≡ None) (λ p. request_of rid.now self.old ≡ Some (record { rid = rid.now; kind = p.0; body = p.1 })) }
+        ensures fits { IfSome result (λ p. MayWait (record { rid = rid.now; kind = p.0; body = p.1 })) }
         ensures others { self.new ≡ without rid.now self.old }
     {
         match place_of(self.requests.as_slice(), rid) {

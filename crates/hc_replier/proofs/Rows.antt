@@ -17,10 +17,10 @@ filter-shorter p (x ∷ xs) =
       | inr f ↦ (let rest = filter-shorter p xs in rw f (omega (arith, rest)))
     ]
 
-empty-row : (bound : ℕ) → bound ≤ most_bound → IsRow (empty_row bound)
+pub empty-row : (bound : ℕ) → bound ≤ most_bound → IsRow (empty_row bound)
 empty-row bound fits = record { fits = fits; within = omega arith; rising = λ i j d before inside. absurd (omega (arith, inside)) }
 
-reported-row : (row : Row) (applied : ℕ) → IsRow row → IsRow (with_reported row applied)
+pub reported-row : (row : Row) (applied : ℕ) → IsRow row → IsRow (with_reported row applied)
 reported-row row applied is =
     let shorter = filter-shorter (λ index. nat_lt applied index) row.given in
     record {

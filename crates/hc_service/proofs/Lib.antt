@@ -1,10 +1,4 @@
-pub mod Maps
-pub mod Sizes
-pub mod Scans
-pub mod Changes
-pub mod OnePair
-pub mod InOrder
-pub mod Fronts
-pub mod Spells
-pub mod Short
-pub mod Stand
+pub mod Counts
+pub mod Entries
+pub mod Running
+pub mod Answering

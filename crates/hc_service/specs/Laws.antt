@@ -1,55 +1,48 @@
--- What holds of the service for any contents and any body.
-use Rattle.std.specs.Prelude.{◌≡◌, ◌≢◌, ℕ, ◌+◌, ◌<◌, ◌≤◌, List, ◌∷◌, ◌++◌, length, All, Some}
-use Rattle.std.specs.List.{flat_map}
-use Rattle.r2_base.specs.declared.entry.Kind.{Kind}
-use Rattle.r2_base.specs.declared.entry.Kind.TheVariants.{Read}
-use Rattle.hc_service.specs.Command.{Command, command_of}
-use Rattle.hc_service.specs.Spelling.{FitsCommand, spelling}
-use Rattle.hc_service.specs.Service.{Contents, done, most_bytes, most_scanned, pair_bytes, pairs_from, scanned, serve, size_of}
-use Rattle.hc_service.specs.Replies.{Operation, reply_at}
-use Rattle.hc_service.specs.Examples.{StoreIsFull, ScanIsFull}
+-- What holds of batches.
+use Rattle.std.specs.Prelude.{◌≡◌, ℕ, ◌+◌, ◌-◌, ◌<◌, ◌≤◌, List, length, take, Some, All, AllPairs, Any, true}
+use Rattle.r2_base.specs.Entry.{is_request}
+use Rattle.hc_store.specs.State.{State}
+use Rattle.hc_store.specs.Replies.{after_all, reply_at}
+use Rattle.hc_log.specs.declared.stored.Stored.{Stored}
+use Rattle.hc_log.specs.Log.{stored_at}
+use Rattle.hc_service.specs.declared.answer.Answer.{Answer}
+use Rattle.hc_service.specs.Batch.{entries_between, run_all}
+use Rattle.hc_service.specs.Entries.{contents_after, operations, own_reads_of, writes_of}
 
--- a request to read leaves what is kept
-abbrev pub ReadsChangeNothing : Type 0
-ReadsChangeNothing = (contents : Contents) (body : List ℕ) → (serve contents Read body).contents ≡ contents
+-- a service after some entries: what one thread would keep after them, and each request to write and each request to read that was
+-- this member's to answer counted
+pub record HasRun (me : ℕ) (entries : List Stored) (before after : State) : Type 0 where
+  pub contents : after.contents ≡ after_all before.contents (operations entries)
+  pub writes : after.writes ≡ before.writes + writes_of entries
+  pub reads : after.reads ≡ before.reads + own_reads_of me entries
 
--- so does a request that isn't carried out
-abbrev pub RefusalsChangeNothing : Type 0
-RefusalsChangeNothing =
-    (contents : Contents) (kind : Kind) (body : List ℕ) → (serve contents kind body).status ≢ done → (serve contents kind body).contents ≡ contents
+-- each batch leaves that
+abbrev pub BatchesRun : Type 0
+BatchesRun = (me index : ℕ) (entries : List Stored) (service : State) → HasRun me entries service (run_all me index entries service).service
 
--- keys and values never have too many bytes together
-abbrev pub StaysWithinItsSize : Type 0
-StaysWithinItsSize =
-    (contents : Contents) (kind : Kind) (body : List ℕ) → size_of contents ≤ most_bytes → size_of (serve contents kind body).contents ≤ most_bytes
+-- the entry at an index is a request that this member is to answer
+pub record IsOwn (me : ℕ) (log : List Stored) (index : ℕ) : Type 0 where
+  pub asks : is_request (stored_at log index).entry.kind ≡ true
+  pub own : (stored_at log index).entry.replier ≡ me
 
--- each of the two limits is reached, and not passed
-abbrev pub LimitsAreReached : Type 0
-LimitsAreReached = (key value : List ℕ) → StoreIsFull key value × ScanIsFull key value
+-- an answer to such an entry: the one-thread service's reply to it
+pub record IsAnswer (me : ℕ) (log : List Stored) (from to : ℕ) (a : Answer) : Type 0 where
+  pub first : from ≤ a.index
+  pub last : a.index ≤ to
+  pub is_own : IsOwn me log a.index
+  pub rid : a.rid ≡ (stored_at log a.index).entry.rid
+  pub kind : a.kind ≡ (stored_at log a.index).entry.kind
+  pub payload : reply_at (operations log) a.index ≡ Some a.payload
 
--- the bytes that encode a command are read as that command
-abbrev pub SpellingIsRead : Type 0
-SpellingIsRead = (command : Command) → FitsCommand command → command_of (spelling command) ≡ Some command
+-- the answers to exactly those entries between two indexes, in the order of their indexes
+pub record AreAnswers (me : ℕ) (log : List Stored) (from to : ℕ) (answers : List Answer) : Type 0 where
+  pub each : All (IsAnswer me log from to) answers
+  pub every : (index : ℕ) → from ≤ index → index ≤ to → IsOwn me log index → Any (λ a. a.index ≡ index) answers
+  pub rising : AllPairs (λ a b. a.index < b.index) answers
 
--- no other bytes are read as it
-abbrev pub WhatIsReadIsSpelled : Type 0
-WhatIsReadIsSpelled =
-    (command : Command) (body : List ℕ) → All (λ b. b < 256) body → command_of body ≡ Some command → (body ≡ spelling command) × FitsCommand command
-
--- of the pairs from a key on these were given, in their order, and these weren't: none that the limits allow is left out
-pub record IsScan (contents : Contents) (key : List ℕ) (limit : ℕ) (given left : List (List ℕ × List ℕ)) : Type 0 where
-  pub pairs : pairs_from contents key ≡ given ++ left
-  pub bytes : scanned contents key limit ≡ flat_map pair_bytes given
-  pub count : length given ≤ limit
-  pub size : length (flat_map pair_bytes given) ≤ most_scanned
-  pub most : (next : List ℕ × List ℕ) (more : List (List ℕ × List ℕ)) → left ≡ next ∷ more → length given < limit
-      → most_scanned < length (flat_map pair_bytes given) + length (pair_bytes next)
-
--- a scan gives the longest prefix that its limits allow
-abbrev pub ScanIsLongestFront : Type 0
-ScanIsLongestFront =
-    (contents : Contents) (key : List ℕ) (limit : ℕ) → (given : List (List ℕ × List ℕ)) × (left : List (List ℕ × List ℕ)) × IsScan contents key limit given left
-
--- the reply to an entry stays what it is, whatever entries come after it
-abbrev pub RepliesStand : Type 0
-RepliesStand = (log more : List Operation) (index : ℕ) → index ≤ length log → reply_at (log ++ more) index ≡ reply_at log index
+-- over what one thread keeps after the entries before, a batch gives those
+abbrev pub BatchesAnswer : Type 0
+BatchesAnswer =
+    (me : ℕ) (log : List Stored) (from to : ℕ) (service : State) → 1 ≤ from → from ≤ to + 1 → to ≤ length log
+    → service.contents ≡ contents_after (take (from - 1) log)
+    → AreAnswers me log from to (run_all me from (entries_between log from to) service).answers

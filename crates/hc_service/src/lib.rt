@@ -1,20 +1,16 @@
-//! The key-value service that the group replicates, as one thread would run it.
+//! The one-thread service over the log of a replica: a batch of entries is executed in their order. What it stands on, the service
+//! itself, is handed on.
 #![tactic(auto)]
 
-mod answers;
-mod asked;
-mod command;
-mod kv;
+mod answer;
+mod batch;
 pub mod laws;
-mod limits;
-mod reply;
-mod service;
-mod store;
 
-pub use kv::{Admitted, Kv};
-pub use limits::{MOST_BYTES, MOST_FIELD, MOST_SCANNED};
-pub use reply::{Reply, payload_of};
-pub use service::Service;
+pub use answer::{Answer, Answers};
+pub use batch::run_batch;
+pub use hc_store::{
+    Admitted, Kv, MOST_BYTES, MOST_FIELD, MOST_SCANNED, Reply, Service, payload_of,
+};
 
 #[cfg(test)]
 mod tests;

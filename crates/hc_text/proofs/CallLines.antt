@@ -6,8 +6,8 @@ use Rattle.std.proofs.lemmas.List.Elements.{All-append}
 use Rattle.hex.specs.Hex.{is_hex_digit}
 use Rattle.hex.proofs.HexLemmas.{decode_of-ok}
 use Rattle.r2_base.specs.Text.{IsSplit}
-use Rattle.hc_service.specs.Command.{Command, Get, Put, Del, Cas, Scan, Count}
-use Rattle.hc_service.specs.Spelling.{FitsCommand, spelling}
+use Rattle.hc_store.specs.Command.{Command, Get, Put, Del, Cas, Scan, Count}
+use Rattle.hc_store.specs.Spelling.{FitsCommand, spelling}
 use Rattle.hc_text.specs.declared.call.Call.{Call}
 use Rattle.cmd_script.specs.declared.text_fault.TextFault.{TextFault}
 use Rattle.cmd_script.specs.declared.text_fault.TextFault.TheVariants.{Outside, Memory}

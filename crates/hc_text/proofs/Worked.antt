@@ -3,10 +3,10 @@ use Rattle.std.proofs.Common.{◌≡◌, ◌≢◌, ℕ, ◌<◌, ◌≤◌, ◌
 use Rattle.std.specs.Prelude.{slice_get}
 use Rattle.clap.proofs.OnLiterals.{clap_on_literals}
 use Rattle.hex.proofs.HexLemmas.{decode_of-ok}
-use Rattle.hc_service.specs.Command.{Command, Get, Put, Del, Cas, Scan, Count}
-use Rattle.hc_service.specs.Spelling.{FitsCommand}
-use Rattle.hc_service.specs.Replies.{payload_of}
-use Rattle.hc_service.proofs.Spells.{a_spelling_is_read}
+use Rattle.hc_store.specs.Command.{Command, Get, Put, Del, Cas, Scan, Count}
+use Rattle.hc_store.specs.Spelling.{FitsCommand}
+use Rattle.hc_store.specs.Replies.{payload_of}
+use Rattle.hc_store.proofs.Spells.{a_spelling_is_read}
 use Rattle.hc_text.specs.Call.{IsValueText, Says, Spaced}
 use Rattle.hc_text.specs.End.{end_text}
 use Rattle.hc_text.specs.Options.{AreTaken, rows_of_words}

@@ -2,8 +2,8 @@
 use Rattle.std.specs.Prelude.{◌≡◌, ◌≢◌, ◌⊎◌, ◌<◌, ◌≤◌, ◌^◌, ℕ, Bool, true, false, List, [], ◌∷◌, ◌++◌, All, Ok, codes}
 use Rattle.std.specs.Fmt.{decimal}
 use Rattle.hex.specs.Hex.{decode_of}
-use Rattle.hc_service.specs.Command.{Command, Get, Put, Del, Cas, Scan, Count}
-use Rattle.hc_service.specs.Spelling.{FitsCommand, spelling}
+use Rattle.hc_store.specs.Command.{Command, Get, Put, Del, Cas, Scan, Count}
+use Rattle.hc_store.specs.Spelling.{FitsCommand, spelling}
 use Rattle.hc_text.specs.declared.call.Call.{Call}
 
 -- a byte that prints, but for the space

@@ -2,8 +2,8 @@
 use Rattle.std.specs.Prelude.{◌≡◌, ◌^◌, ◌<◌, ℕ, List, [], ◌∷◌, ◌++◌, length, Some, codes}
 use Rattle.clap.specs.Words.{first_of}
 use Rattle.r2_client.specs.declared.call_end.CallEnd.TheVariants.{Reply}
-use Rattle.hc_service.specs.Command.{Command, command_of}
-use Rattle.hc_service.specs.Replies.{payload_of}
+use Rattle.hc_store.specs.Command.{Command, command_of}
+use Rattle.hc_store.specs.Replies.{payload_of}
 use Rattle.hc_text.specs.declared.meant.Meant.{Meant}
 use Rattle.hc_text.specs.Call.{Says, IsCallLine, call_of}
 use Rattle.hc_text.specs.End.{end_text, served_text}

@@ -1,6 +1,6 @@
 ghost use Rattle.std.specs.Prelude.{◌≡◌, ◌++◌, ◌<◌, ◌^◌, length, IfOk, OnOk};
-ghost use Rattle.hc_service.specs.Command.{Get, Put, Del, Cas, Scan, Count};
-ghost use Rattle.hc_service.specs.Spelling.{sized, spelling};
+ghost use Rattle.hc_store.specs.Command.{Get, Put, Del, Cas, Scan, Count};
+ghost use Rattle.hc_store.specs.Spelling.{sized, spelling};
 
 use r2_base::{Bytes, NoMemory, push_u16};
 use std::alloc::Global;
@@ -16,7 +16,7 @@ fn push_sized(out: &mut Vec<u8>, field: &[u8]) -> Result<(), NoMemory>
 }
 
 /// The body that gets the value of a key.
-#[tactic(auto, unfolding(hc_service::specs::Spelling::spelling))]
+#[tactic(auto, unfolding(hc_store::specs::Spelling::spelling))]
 pub(crate) fn get_body(alloc: Global, key: &[u8]) -> Result<Bytes, NoMemory>
     requires { length key.now < 2 ^ 16 }
     ensures { IfOk result (λ body. body ≡ spelling (Get key.now)) }
@@ -27,7 +27,7 @@ pub(crate) fn get_body(alloc: Global, key: &[u8]) -> Result<Bytes, NoMemory>
 }
 
 /// The body that sets the value of a key.
-#[tactic(auto, unfolding(hc_service::specs::Spelling::spelling))]
+#[tactic(auto, unfolding(hc_store::specs::Spelling::spelling))]
 pub(crate) fn put_body(alloc: Global, key: &[u8], value: &[u8]) -> Result<Bytes, NoMemory>
     requires { length key.now < 2 ^ 16 }
     ensures { IfOk result (λ body. body ≡ spelling (Put key.now value.now)) }
@@ -39,7 +39,7 @@ pub(crate) fn put_body(alloc: Global, key: &[u8], value: &[u8]) -> Result<Bytes,
 }
 
 /// The body that takes a key out.
-#[tactic(auto, unfolding(hc_service::specs::Spelling::spelling))]
+#[tactic(auto, unfolding(hc_store::specs::Spelling::spelling))]
 pub(crate) fn del_body(alloc: Global, key: &[u8]) -> Result<Bytes, NoMemory>
     requires { length key.now < 2 ^ 16 }
     ensures { IfOk result (λ body. body ≡ spelling (Del key.now)) }
@@ -50,7 +50,7 @@ pub(crate) fn del_body(alloc: Global, key: &[u8]) -> Result<Bytes, NoMemory>
 }
 
 /// The body that sets a new value in the place of the old one.
-#[tactic(auto, unfolding(hc_service::specs::Spelling::spelling))]
+#[tactic(auto, unfolding(hc_store::specs::Spelling::spelling))]
 pub(crate) fn cas_body(alloc: Global, key: &[u8], old: &[u8], new: &[u8]) -> Result<Bytes, NoMemory>
     requires key_fits { length key.now < 2 ^ 16 }
     requires old_fits { length old.now < 2 ^ 16 }
@@ -64,7 +64,7 @@ pub(crate) fn cas_body(alloc: Global, key: &[u8], old: &[u8], new: &[u8]) -> Res
 }
 
 /// The body that reads pairs from a key on.
-#[tactic(auto, unfolding(hc_service::specs::Spelling::spelling))]
+#[tactic(auto, unfolding(hc_store::specs::Spelling::spelling))]
 pub(crate) fn scan_body(alloc: Global, key: &[u8], limit: u16) -> Result<Bytes, NoMemory>
     requires { length key.now < 2 ^ 16 }
     ensures { IfOk result (λ body. body ≡ spelling (Scan key.now limit)) }
@@ -76,7 +76,7 @@ pub(crate) fn scan_body(alloc: Global, key: &[u8], limit: u16) -> Result<Bytes, 
 }
 
 /// The body that counts the pairs.
-#[tactic(auto, unfolding(hc_service::specs::Spelling::spelling))]
+#[tactic(auto, unfolding(hc_store::specs::Spelling::spelling))]
 pub(crate) fn count_body(alloc: Global) -> Result<Bytes, NoMemory>
     ensures { IfOk result (λ body. body ≡ spelling Count) }
 {

@@ -1,5 +1,5 @@
 ghost use Rattle.std.specs.Prelude.{◌≡◌, ◌<◌, ◌^◌, ℕ, Bool, List, Some, Err, length, IfOk, IfSome, MatchResult};
-ghost use Rattle.hc_service.specs.Command.{Get, Put, Del, Cas, Scan, Count};
+ghost use Rattle.hc_store.specs.Command.{Get, Put, Del, Cas, Scan, Count};
 ghost use Rattle.hc_text.specs.Call.{call_of, mode_word, Is, IsCallLine, IsLimitText, IsValueText, Spaced};
 ghost use Rattle.hc_text.specs.declared.call.Call.{Call as CallSpec};
 
@@ -7,7 +7,7 @@ use crate::body::{cas_body, count_body, del_body, get_body, put_body, scan_body}
 use crate::call::Call;
 use crate::value::{read_sized, read_value};
 use cmd_script::TextFault;
-use hc_service::MOST_FIELD;
+use hc_store::MOST_FIELD;
 use r2_base::{read_decimal, split_once};
 use std::alloc::Global;
 

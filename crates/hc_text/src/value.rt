@@ -3,7 +3,7 @@ ghost use Rattle.hex.specs.Hex.{decode_of};
 ghost use Rattle.hc_text.specs.Call.{IsPrinting, IsValueText};
 
 use cmd_script::TextFault;
-use hc_service::MOST_FIELD;
+use hc_store::MOST_FIELD;
 use hex::FromHexError;
 use r2_base::Bytes;
 use std::alloc::Global;

@@ -1,20 +1,16 @@
 -- What holds of the commands that words mean, and of their ends.
-use Rattle.std.proofs.Common.{inl, ℕ, List, Option, arith}
-use Rattle.r2_link.specs.declared.lane.Item.{Item}
-use Rattle.r2_link.proofs.Streams.{Consumes-nil}
+use Rattle.std.proofs.Common.{inl, inr, ℕ, List, arith}
+use Rattle.r2_link.specs.Faults.{Faults, NoneFalls}
+use Rattle.r2_link.proofs.Faults.{then-Rose}
 use Rattle.hc_text.specs.declared.meant.Meant.{Meant}
 use Rattle.hc_text.specs.declared.meant.Meant.TheVariants.{Router, Server, Client, Replay}
 use Rattle.hc_text.specs.Words.{Means}
-use Rattle.cmd_status.specs.declared.status.Status.TheVariants.{BadWords, Memory}
-use Rattle.cmd_loop.proofs.Told.{IsKept-refl, Passes-none}
-use Rattle.cmd_router.proofs.Routes.{routes-nothing}
-use Rattle.cmd_client.specs.Outside.{Outside}
-use Rattle.cmd_client.proofs.Passing.{passes-none}
-use Rattle.cmd_replay.proofs.Replays.{nothing-of}
-use Rattle.hc_tops.specs.Commands.{EndsWell, IsWithin, Runs, around, loop_part}
+use Rattle.cmd_status.specs.declared.status.Status.TheVariants.{BadWords}
+use Rattle.cmd_loop.specs.Ends.{Ends}
+use Rattle.hc_tops.specs.Commands.{IsCalm, Uses, row}
 
 -- the numbers of a meaning are within their limits
-pub means_within : (words : List (List ℕ)) (m : Meant) → Means words m → IsWithin m
+pub means_within : (words : List (List ℕ)) (m : Meant) → Means words m → (row m).is_within
 means_within words (Router listen servers n workers tick_ms turns) means = (
   means.hold.targets.holds.some,
   means.hold.targets.holds.few,
@@ -38,24 +34,18 @@ means_within words (Replay members me aggregator bound election) means = record 
   election_high = means.hold.elects.holds.to_most;
 }
 
--- memory ran out before anything was done
-pub runs-nothing : (m : Meant) (left : Option (List ℕ)) (lanes : Option (List (List Item))) (o : Outside) → Runs m left left lanes lanes o o Memory
-runs-nothing (Router listen servers n workers tick_ms turns) left lanes o =
-    (routes-nothing (record { me = listen; servers = servers; n = n }) (record { tick_ms = tick_ms; turns = turns }) (around lanes o) o.written, IsKept-refl o.left)
-runs-nothing (Server listen router tick_ms turns) left lanes o = inl (Passes-none (loop_part o))
-runs-nothing (Client listen to policy wait tries tick_ms turns) left lanes o = inl (record { took = Consumes-nil left; passed = passes-none o })
-runs-nothing (Replay members me aggregator bound election) left lanes o =
-    nothing-of (record { members = members; me = me; aggregator = aggregator; bound = bound; election = election }) left o.written
-
-pub ends-for-memory : (m : Meant) (left : Option (List ℕ)) (source sink link clock : Type 0) → EndsWell m left source sink link clock Memory
-ends-for-memory (Router listen servers n workers tick_ms turns) left source sink link clock = λ a b c. tt
-ends-for-memory (Server listen router tick_ms turns) left source sink link clock = λ a b. tt
-ends-for-memory (Client listen to policy wait tries tick_ms turns) left source sink link clock = λ script is said a b c d. tt
-ends-for-memory (Replay members me aggregator bound election) left source sink link clock = λ script is said a b. tt
-
 -- no command that ran refuses its words
-pub runs-known : (m : Meant) (left left' : Option (List ℕ)) (lanes lanes' : Option (List (List Item))) (a b : Outside) → Runs m left left' lanes lanes' a b BadWords → ⊥
-runs-known (Router listen servers n workers tick_ms turns) left left' lanes lanes' a b ran = ran.0
-runs-known (Server listen router tick_ms turns) left left' lanes lanes' a b ran = ran.ended
-runs-known (Client listen to policy wait tries tick_ms turns) left left' lanes lanes' a b ran = ran.lines.ended
-runs-known (Replay members me aggregator bound election) left left' lanes lanes' a b ran = ran.did
+pub runs-known : (m : Meant) (a b : Ends) → (row m).runs a b BadWords → ⊥
+runs-known (Router listen servers n workers tick_ms turns) a b ran = ran
+runs-known (Server listen router tick_ms turns) a b ran = ran.ended
+runs-known (Client listen to policy wait tries tick_ms turns) a b ran = elim ran.lines.ended [ inl between ↦ between.1 | inr within ↦ within.stops ]
+runs-known (Replay members me aggregator bound election) a b ran = ran.did.ends
+
+-- a run without a fault has none after its link was bound
+pub calm-behind : (uses : Uses) (a b c : Faults) → NoneFalls a b → IsCalm uses a c → IsCalm uses b c
+calm-behind uses a b c steady calm = record {
+  source = λ is rose. calm.source is (then-Rose a.source b.source c.source steady.source rose);
+  sink = λ is rose. calm.sink is (then-Rose a.sink b.sink c.sink steady.sink rose);
+  link = λ is rose. calm.link is (then-Rose a.link b.link c.link steady.link rose);
+  clock = λ is rose. calm.clock is (then-Rose a.clock b.clock c.clock steady.clock rose);
+}

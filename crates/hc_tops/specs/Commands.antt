@@ -1,58 +1,112 @@
--- What the words of a command line make the program do.
-use Rattle.std.specs.Prelude.{◌≡◌, ◌⊎◌, ℕ, ◌≤◌, List, [], length, Option, Some}
+-- The commands: what each uses, where it listens, and what it does.
+use Rattle.std.specs.Prelude.{◌≡◌, ◌⊎◌, ℕ, ◌≤◌, Bool, true, false, List, [], length, Option, Some, None}
 use Rattle.r2_base.specs.Limits.{most_turns}
+use Rattle.r2_base.specs.declared.addr.Addr.{Addr}
 use Rattle.r2_jbsq.specs.Limits.{greatest_n, most_servers}
-use Rattle.r2_link.specs.declared.lane.Item.{Item}
-use Rattle.r2_link.specs.Told.{IsKept}
+use Rattle.r2_link.specs.Faults.{Faults, NoneFalls, Rose, calm}
+use Rattle.r2_link.specs.Links.{LinkPasses, LinkTold}
 use Rattle.hc_text.specs.declared.meant.Meant.{Meant}
+use Rattle.cmd_script.specs.declared.text_fault.TextFault.{TextFault}
+use Rattle.cmd_script.specs.declared.text_fault.TextFault.TheVariants.{Outside, Memory as NoRoom}
 use Rattle.hc_text.specs.declared.meant.Meant.TheVariants.{Router, Server, Client, Replay}
 use Rattle.cmd_status.specs.declared.status.Status.{Status}
 use Rattle.cmd_status.specs.declared.status.Status.TheVariants.{BadWords, LinkFault, Memory}
+use Rattle.cmd_status.specs.Causes.{IsCaused}
+use Rattle.cmd_loop.specs.Ends.{Ends, Passes, nothing}
 use Rattle.cmd_loop.specs.Loop.{IsServed, Serves}
-use Rattle.cmd_loop.specs.Outside.{Outside as LoopOutside, Passes as LoopPasses}
+use Rattle.cmd_loop.specs.Plain.{Unstored}
+use Rattle.cmd_server.specs.Plain.{PlainSends}
 use Rattle.cmd_router.specs.Routes.{Routes}
-use Rattle.cmd_router.specs.Twins.{Around}
-use Rattle.cmd_client.specs.Calls.{Calls, DoesNothing, IsCalled}
-use Rattle.cmd_client.specs.Outside.{Outside}
+use Rattle.cmd_client.specs.Calls.{Calls, IsCalled}
 use Rattle.cmd_client.specs.Script.{IsScript as IsCallScript}
 use Rattle.cmd_replay.specs.Grammar.{IsScript}
 use Rattle.cmd_replay.specs.Replay.{IsAlone, IsComplete, IsReplay}
-use Rattle.cmd_server.specs.Plain.{PlainSends}
 
--- the commands that no thread is needed for
-abbrev pub IsPlain : Meant → Type 0
-IsPlain (Router listen servers n workers tick_ms turns) = ⊥
-IsPlain (Server listen router tick_ms turns) = ⊥
-IsPlain (Client listen to policy wait tries tick_ms turns) = Unit {0}
-IsPlain (Replay members me aggregator bound election) = Unit {0}
+-- what a source, a sink, a link and a clock tell, where there is no journal
+abbrev pub ends : Option (List ℕ) → Option (List ℕ) → LinkTold → Option (List ℕ) → Ends
+ends source written link clock = record { source = source; written = written; link = link; clock = clock; records = None }
 
--- the commands that read a script
-abbrev pub UsesScript : Meant → Type 0
-UsesScript (Router listen servers n workers tick_ms turns) = ⊥
-UsesScript (Server listen router tick_ms turns) = ⊥
-UsesScript (Client listen to policy wait tries tick_ms turns) = Unit {0}
-UsesScript (Replay members me aggregator bound election) = Unit {0}
+-- and how often each of them has failed
+abbrev pub fault_counts : ℕ → ℕ → ℕ → ℕ → Faults
+fault_counts source sink link clock = record calm { source = source; sink = sink; link = link; clock = clock }
 
--- the commands that print
-abbrev pub Prints : Meant → Type 0
-Prints (Router listen servers n workers tick_ms turns) = Unit {0}
-Prints (Server listen router tick_ms turns) = ⊥
-Prints (Client listen to policy wait tries tick_ms turns) = Unit {0}
-Prints (Replay members me aggregator bound election) = Unit {0}
+-- which objects of the outside a command uses
+pub record Uses : Type 0 where
+  pub source : Bool
+  pub sink : Bool
+  pub link : Bool
+  pub clock : Bool
 
--- the commands that use a link and a clock
-abbrev pub UsesLink : Meant → Type 0
-UsesLink (Router listen servers n workers tick_ms turns) = Unit {0}
-UsesLink (Server listen router tick_ms turns) = Unit {0}
-UsesLink (Client listen to policy wait tries tick_ms turns) = Unit {0}
-UsesLink (Replay members me aggregator bound election) = ⊥
+-- none of the objects that a command uses failed
+pub record IsCalm (uses : Uses) (old new : Faults) : Type 0 where
+  pub source : uses.source ≡ true → Rose old.source new.source → ⊥
+  pub sink : uses.sink ≡ true → Rose old.sink new.sink → ⊥
+  pub link : uses.link ≡ true → Rose old.link new.link → ⊥
+  pub clock : uses.clock ≡ true → Rose old.clock new.clock → ⊥
 
--- the commands that run on twins of their link
-abbrev pub UsesTwins : Meant → Type 0
-UsesTwins (Router listen servers n workers tick_ms turns) = Unit {0}
-UsesTwins (Server listen router tick_ms turns) = ⊥
-UsesTwins (Client listen to policy wait tries tick_ms turns) = ⊥
-UsesTwins (Replay members me aggregator bound election) = ⊥
+-- a command: what it uses, the address that it listens at, where it does; whether it needs no twin of the link and serves nobody;
+-- whether its numbers are within the limits of the call that runs it; what it does, and how it ends where nothing failed
+pub record Row : Type 1 where
+  pub uses : Uses
+  pub listens : Option Addr
+  pub is_plain : Type 0
+  pub is_within : Type 0
+  pub runs : Ends → Ends → Status → Type 0
+  pub ends_well : Option (List ℕ) → Status → Type 0
+
+abbrev pub row : Meant → Row
+row (Router listen servers n workers tick_ms turns) = record {
+  uses = record { source = false; sink = true; link = true; clock = true };
+  listens = Some listen;
+  is_plain = ⊥;
+  is_within = (1 ≤ length servers) × (length servers ≤ most_servers) × (1 ≤ n) × (n ≤ greatest_n) × (workers ≡ 1) × (1 ≤ tick_ms) × (turns ≤ most_turns);
+  runs = λ old new status. Routes (record { me = listen; servers = servers; n = n }) (record { tick_ms = tick_ms; turns = turns }) old new status;
+  ends_well = λ script status. IsServed status;
+}
+row (Server listen router tick_ms turns) = record {
+  uses = record { source = false; sink = false; link = true; clock = true };
+  listens = Some listen;
+  is_plain = ⊥;
+  is_within = (1 ≤ tick_ms) × (turns ≤ most_turns);
+  runs = λ old new status.
+      Serves (Unstored (PlainSends listen router)) (Unstored (PlainSends listen router)) (Unstored (PlainSends listen router)) (record { tick_ms = tick_ms; turns = turns }) old new status;
+  ends_well = λ script status. IsServed status;
+}
+row (Client listen to policy wait tries tick_ms turns) = record {
+  uses = record { source = true; sink = true; link = true; clock = true };
+  listens = Some listen;
+  is_plain = Unit {0};
+  is_within = (1 ≤ length to) × (length to ≤ 7) × (1 ≤ wait) × (1 ≤ tries) × (1 ≤ tick_ms);
+  runs = λ old new status.
+      Calls (record { listen = listen; to = to; policy = policy; wait = wait; tries = tries }) (record { tick_ms = tick_ms; turns = turns }) old new status;
+  ends_well = λ told status. (script : List ℕ) → told ≡ Some script → IsCallScript script → IsCalled status;
+}
+row (Replay members me aggregator bound election) = record {
+  uses = record { source = true; sink = true; link = false; clock = false };
+  listens = None;
+  is_plain = Unit {0};
+  is_within = IsAlone (record { members = members; me = me; aggregator = aggregator; bound = bound; election = election });
+  runs = λ old new status.
+      IsReplay (record { members = members; me = me; aggregator = aggregator; bound = bound; election = election }) old.source new.source old.written new.written status;
+  ends_well = λ told status. (script : List ℕ) → told ≡ Some script → IsScript script → IsComplete status;
+}
+
+-- a link was bound at the address, where there is one, and nothing passed
+abbrev pub IsBound : Option Addr → LinkTold → LinkTold → Type 0
+IsBound None old new = new ≡ old
+IsBound (Some me) old new = LinkPasses (record old { me = Some me }) new [] []
+
+-- a command can't begin: memory ran out, or the link at which it was to listen failed
+abbrev pub CantBegin : Option Addr → Status → Type 0
+CantBegin listens Memory = Unit {0}
+CantBegin (Some me) LinkFault = Unit {0}
+CantBegin listens status = ⊥
+
+-- a command couldn't begin, and nothing was done; or its link was bound first, and then it ran so
+abbrev pub RunsBound : Option Addr → (Ends → Ends → Status → Type 0) → Ends → Ends → Status → Type 0
+RunsBound listens runs old new status =
+    (CantBegin listens status × Passes old new nothing)
+    ⊎ ((between : LinkTold) × IsBound listens old.link between × runs (record old { link = between }) new status)
 
 -- what is refused: words that mean nothing, if they could be read at all
 abbrev pub IsRefusal : Status → Type 0
@@ -60,49 +114,20 @@ IsRefusal BadWords = Unit {0}
 IsRefusal Memory = Unit {0}
 IsRefusal _ = ⊥
 
--- the numbers of a command are within the limits of the call that runs it
-abbrev pub IsWithin : Meant → Type 0
-IsWithin (Router listen servers n workers tick_ms turns) =
-    (1 ≤ length servers) × (length servers ≤ most_servers) × (1 ≤ n) × (n ≤ greatest_n) × (workers ≡ 1) × (1 ≤ tick_ms) × (turns ≤ most_turns)
-IsWithin (Server listen router tick_ms turns) = (1 ≤ tick_ms) × (turns ≤ most_turns)
-IsWithin (Client listen to policy wait tries tick_ms turns) = (1 ≤ length to) × (length to ≤ 7) × (1 ≤ wait) × (1 ≤ tries) × (1 ≤ tick_ms)
-IsWithin (Replay members me aggregator bound election) =
-    IsAlone (record { members = members; me = me; aggregator = aggregator; bound = bound; election = election })
+-- how a run ends whose words couldn't be read
+abbrev pub refusal_of : TextFault → Status
+refusal_of Outside = BadWords
+refusal_of NoRoom = Memory
 
--- a command that binds its link first: it ran so, or the link couldn't be bound, or memory ran out, and nothing was done
-abbrev pub BehindBinding : Type 0 → (Status → Type 0) → Status → Type 0
-BehindBinding Nothing Ran LinkFault = Nothing ⊎ Ran LinkFault
-BehindBinding Nothing Ran Memory = Nothing ⊎ Ran Memory
-BehindBinding Nothing Ran status = Ran status
+-- words that may mean these commands ran so: they were refused where they mean none, and else the command ran that they mean
+pub record Ran (M : Meant → Type 0) (old new : Ends) (before after : Faults) (status : Status) : Type 0 where
+  pub refused : status ≡ BadWords → (m : Meant) → M m → ⊥
+  pub only_refused : ((m : Meant) → M m → ⊥) → IsRefusal status
+  pub did : (m : Meant) → M m → RunsBound (row m).listens (row m).runs old new status
+  pub well : (m : Meant) → M m → IsCalm (row m).uses before after → (row m).ends_well old.source status
+  pub caused : IsCaused before after status
+  pub steady : NoneFalls before after
 
--- of the outside, what a server's loop has to do with
-abbrev pub loop_part : Outside → LoopOutside
-loop_part o = record { left = o.left; sent = o.sent; clock = o.clock }
-
--- and what a router's run has to do with
-abbrev pub around : Option (List (List Item)) → Outside → Around
-around lanes o = record { lanes = lanes; sent = o.sent; clock = o.clock }
-
--- a command ran and ended so: what the source had left and has, the lanes that the link had left for twins and has, and the outside
--- before and after it
-abbrev pub Runs : Meant → Option (List ℕ) → Option (List ℕ) → Option (List (List Item)) → Option (List (List Item)) → Outside → Outside → Status → Type 0
-Runs (Router listen servers n workers tick_ms turns) left left' lanes lanes' old new status =
-    Routes (record { me = listen; servers = servers; n = n }) (record { tick_ms = tick_ms; turns = turns }) (around lanes old) (around lanes' new) old.written new.written status
-    × IsKept old.left new.left
-Runs (Server listen router tick_ms turns) left left' lanes lanes' old new status =
-    BehindBinding (LoopPasses (loop_part old) (loop_part new) [] [] [])
-    (Serves (PlainSends listen router) (PlainSends listen router) (record { tick_ms = tick_ms; turns = turns }) (loop_part old) (loop_part new)) status
-Runs (Client listen to policy wait tries tick_ms turns) left left' lanes lanes' old new status =
-    BehindBinding (DoesNothing left left' old new)
-    (Calls (record { listen = listen; to = to; policy = policy; wait = wait; tries = tries }) (record { tick_ms = tick_ms; turns = turns }) left left' old new) status
-Runs (Replay members me aggregator bound election) left left' lanes lanes' old new status =
-    IsReplay (record { members = members; me = me; aggregator = aggregator; bound = bound; election = election }) left left' old.written new.written status
-
--- how a command ends where its script is in its grammar, and none of its source, sink, link and clock failed
-abbrev pub EndsWell : Meant → Option (List ℕ) → (source sink link clock : Type 0) → Status → Type 0
-EndsWell (Router listen servers n workers tick_ms turns) left source sink link clock status = (sink → ⊥) → (link → ⊥) → (clock → ⊥) → IsServed status
-EndsWell (Server listen router tick_ms turns) left source sink link clock status = (link → ⊥) → (clock → ⊥) → IsServed status
-EndsWell (Client listen to policy wait tries tick_ms turns) left source sink link clock status =
-    (script : List ℕ) → left ≡ Some script → IsCallScript script → (source → ⊥) → (sink → ⊥) → (link → ⊥) → (clock → ⊥) → IsCalled status
-EndsWell (Replay members me aggregator bound election) left source sink link clock status =
-    (script : List ℕ) → left ≡ Some script → IsScript script → (source → ⊥) → (sink → ⊥) → IsComplete status
+-- no command that is meant uses this object
+abbrev pub Spares : (Meant → Type 0) → (Uses → Bool) → Type 0
+Spares M pick = (m : Meant) → M m → pick (row m).uses ≡ false

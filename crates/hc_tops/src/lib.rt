@@ -1,7 +1,8 @@
 //! The commands: each runs a party of the protocol between the objects of the outside.
 #![tactic(auto)]
 
-mod bound;
+mod binding;
+mod running;
 mod top;
 
 pub use cmd_client::{Calling, call_client};

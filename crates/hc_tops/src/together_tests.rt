@@ -1,6 +1,6 @@
 //! Two clients' sessions, a router and a server, over the datagrams that they give each other.
 
-use hc_service::Kv;
+use hc_store::Kv;
 use r2_base::{Addr, Addrs, Datagram, Duplicate, Event};
 use r2_client::{CallEnd, Session};
 use r2_jbsq::Router;

@@ -7,10 +7,10 @@ use Rattle.r2_base.specs.Entry.{blank_entry, is_request}
 use Rattle.hc_world.specs.Log.{In, entry_at, term_at}
 use Rattle.hc_world.specs.Message.{VoteRequest, Order, Ack, Request}
 use Rattle.r2_base.specs.declared.entry.Kind.TheVariants.{Write}
-use Rattle.hc_service.specs.Command.{command_of}
-use Rattle.hc_service.specs.Service.{Served, serve}
-use Rattle.hc_service.specs.Replies.{after_all, payload_of, reply_at, reply_of}
-use Rattle.hc_service.proofs.InOrder.{found, requests_in_order}
+use Rattle.hc_store.specs.Command.{command_of}
+use Rattle.hc_store.specs.Service.{Served, serve}
+use Rattle.hc_store.specs.Replies.{after_all, payload_of, reply_at, reply_of}
+use Rattle.hc_store.proofs.InOrder.{found, requests_in_order}
 use Rattle.r2_base.specs.declared.entry.Kind.TheVariants.{Read}
 use Rattle.hc_world.specs.Agreed.{AppliesTheSame, agreed}
 use Rattle.hc_world.specs.Conditions.{Holds}

@@ -17,12 +17,12 @@ use Rattle.std.proofs.lemmas.List.{length-map, take-map, get_or-map}
 use Rattle.std.proofs.lemmas.Option.{slice_get-get_or, slice_get_past}
 use Rattle.r2_base.specs.declared.entry.Kind.{Kind}
 use Rattle.r2_base.specs.declared.entry.Kind.TheVariants.{Blank, Write, Read}
-use Rattle.hc_service.specs.Replies.{Operation, after_all, entry_reply, reply_at}
+use Rattle.hc_store.specs.Replies.{Operation, after_all, entry_reply, reply_at}
 use Rattle.hc_world.specs.Conditions.{MayAnswer}
 use Rattle.hc_world.specs.Kept.{IsFormed}
 use Rattle.hc_world.specs.Replies.{IsRight, RepliesAreRight, PlacesAreWithin, LaterRequestsStandBehind}
 use Rattle.hc_world.specs.Requests.{At, IsKnown, IsListed, body_of, entry_body, operations}
-use Rattle.hc_service.specs.Operations.{operation_by}
+use Rattle.hc_store.specs.Operations.{operation_by}
 use Rattle.hc_world.specs.Rules.{reply_of}
 use Rattle.r2_base.proofs.SameNames.{same_rid-same}
 use Rattle.hc_world.proofs.Agreement.{fronts_agree}

@@ -3,7 +3,7 @@ use Rattle.std.specs.Prelude.{◌≡◌, ◌≢◌, ◌⊎◌, ℕ, suc, ◌+◌
 use Rattle.r2_base.specs.declared.rid.Rid.{Rid}
 use Rattle.r2_base.specs.declared.entry.Entry.{Entry}
 use Rattle.r2_base.specs.Entry.{is_request}
-use Rattle.hc_service.specs.Replies.{reply_at}
+use Rattle.hc_store.specs.Replies.{reply_at}
 use Rattle.hc_world.specs.Log.{In, HaveTerms, IsNotAhead, Lacks, StandsIn, entry_at, last_term, term_at}
 use Rattle.hc_world.specs.Majority.{IsMajority}
 use Rattle.hc_world.specs.Message.{VoteRequest, Order, Ack, AggregateCommit, Request, Reply}

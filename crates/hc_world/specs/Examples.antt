@@ -3,7 +3,7 @@ use Rattle.std.specs.Prelude.{◌≡◌, ◌≢◌, ℕ, zero, suc, Bool, true, 
 use Rattle.r2_base.specs.declared.entry.Entry.{Entry}
 use Rattle.r2_base.specs.declared.entry.Kind.TheVariants.{Write, Read}
 use Rattle.r2_base.specs.Entry.{blank_entry}
-use Rattle.hc_service.specs.Replies.{payload_of}
+use Rattle.hc_store.specs.Replies.{payload_of}
 use Rattle.hc_world.specs.Agreed.{agreed}
 use Rattle.hc_world.specs.Log.{In}
 use Rattle.hc_world.specs.Message.{Order, Reply, Request}

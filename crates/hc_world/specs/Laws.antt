@@ -2,7 +2,7 @@
 use Rattle.std.specs.Prelude.{◌≡◌, ℕ, suc, ◌<◌, ◌≤◌, true, List, [], ◌∷◌, length, Some}
 use Rattle.r2_base.specs.declared.entry.Entry.{Entry}
 use Rattle.r2_base.specs.Entry.{blank_entry, is_request}
-use Rattle.hc_service.specs.Replies.{reply_at}
+use Rattle.hc_store.specs.Replies.{reply_at}
 use Rattle.hc_world.specs.Agreed.{AppliesTheSame, HasAt, HasNoneTwice, IsAgreed, agreed}
 use Rattle.hc_world.specs.Conditions.{Allowed}
 use Rattle.hc_world.specs.Kept.{AcknowledgedIsTheLeaders, AggregatesAreCommitted, EachLog, Kept}

@@ -2,7 +2,7 @@
 use Rattle.std.specs.Prelude.{◌≡◌, ℕ, suc, ◌<◌, ◌≤◌, true, List, length, Option, Some}
 use Rattle.r2_base.specs.declared.entry.Entry.{Entry}
 use Rattle.r2_base.specs.Entry.{is_request}
-use Rattle.hc_service.specs.Replies.{reply_at}
+use Rattle.hc_store.specs.Replies.{reply_at}
 use Rattle.hc_world.specs.Log.{In, entry_at, term_at}
 use Rattle.hc_world.specs.Message.{Ack, Reply, Request}
 use Rattle.hc_world.specs.Requests.{At, operations}

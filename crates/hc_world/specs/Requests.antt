@@ -4,8 +4,8 @@ use Rattle.r2_base.specs.declared.rid.Rid.{Rid}
 use Rattle.r2_base.specs.declared.entry.Entry.{Entry}
 use Rattle.r2_base.specs.Entry.{is_request}
 use Rattle.r2_base.specs.Names.{same_rid}
-use Rattle.hc_service.specs.Operations.{operations_of}
-use Rattle.hc_service.specs.Replies.{Operation}
+use Rattle.hc_store.specs.Operations.{operations_of}
+use Rattle.hc_store.specs.Replies.{Operation}
 use Rattle.hc_world.specs.Log.{In}
 use Rattle.hc_world.specs.Message.{Request}
 

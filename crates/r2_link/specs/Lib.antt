@@ -1,5 +1,6 @@
 pub mod Faults
 pub mod Lanes
+pub mod Links
 pub mod Memory
 pub mod Moments
 pub mod Sent

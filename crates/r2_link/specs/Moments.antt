@@ -12,8 +12,9 @@ moments_behind [] = []
 moments_behind (n ∷ []) = n ∷ []
 moments_behind (n ∷ m ∷ rest) = m ∷ rest
 
--- the clock gave the next moment
-abbrev pub Gives : Option (List ℕ) → Option (List ℕ) → ℕ → Type 0
-Gives None new n = ⊤
-Gives (Some moments) None n = ⊥
-Gives (Some moments) (Some behind) n = (n ≡ moment_of moments) × (behind ≡ moments_behind moments)
+-- a clock gave these moments, one after another, and nothing else
+abbrev pub Tells : Option (List ℕ) → Option (List ℕ) → List ℕ → Type 0
+Tells None new moments = ⊤
+Tells (Some left) None moments = ⊥
+Tells (Some left) (Some behind) [] = behind ≡ left
+Tells (Some left) (Some behind) (moment ∷ more) = (moment ≡ moment_of left) × Tells (Some (moments_behind left)) (Some behind) more

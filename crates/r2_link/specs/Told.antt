@@ -13,6 +13,18 @@ Gains None new more = ⊤
 Gains (Some xs) None more = ⊥
 Gains (Some xs) (Some ys) more = ys ≡ xs ++ more
 
+-- these were the first that were told, and are told no more
+abbrev pub Takes : {A : Type 0} → Option (List A) → Option (List A) → List A → Type 0
+Takes None new taken = ⊤
+Takes (Some xs) None taken = ⊥
+Takes (Some xs) (Some ys) taken = xs ≡ taken ++ ys
+
+-- where any were told to be left, none is left now
+abbrev pub RanDry : {A : Type 0} → Option (List A) → Option (List A) → Type 0
+RanDry None new = ⊤
+RanDry (Some xs) None = ⊥
+RanDry (Some xs) (Some ys) = ys ≡ []
+
 -- what another object tells, where it tells it, was told behind
 abbrev pub Joins : {A : Type 0} → Option (List A) → Option (List A) → Option (List A) → Type 0
 Joins old new None = ⊤

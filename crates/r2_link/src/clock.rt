@@ -1,7 +1,6 @@
-ghost use Rattle.std.specs.Prelude.{ℕ, List, Option, ◌≤◌, OnErr, MatchResult};
+ghost use Rattle.std.specs.Prelude.{ℕ, List, [], ◌∷◌, Option, ◌≤◌, OnErr, MatchResult};
 ghost use Rattle.r2_link.specs.Faults.{Rose};
-ghost use Rattle.r2_link.specs.Told.{IsKept};
-ghost use Rattle.r2_link.specs.Moments.{Gives};
+ghost use Rattle.r2_link.specs.Moments.{Tells};
 
 use r2_base::Failed;
 
@@ -15,7 +14,7 @@ pub trait Clock {
 
     /// The time since some start, in milliseconds.
     fn now(&mut self) -> Result<u64, Failed>
-        ensures moment { MatchResult result (λ n. Gives (left self.old) (left self.new) n) (λ _. IsKept (left self.old) (left self.new)) }
+        ensures moment { MatchResult result (λ n. Tells (left self.old) (left self.new) (n ∷ [])) (λ _. Tells (left self.old) (left self.new) []) }
         ensures steady { faults self.old ≤ faults self.new }
         ensures cause { OnErr result (Rose (faults self.old) (faults self.new)) };
 }

@@ -1,9 +1,8 @@
-ghost use Rattle.std.specs.Prelude.{◌≡◌, ℕ, List, [], ◌∷◌, Option, ◌≤◌, OnOk, OnErr, MatchResult, ⊤};
+ghost use Rattle.std.specs.Prelude.{◌≡◌, ℕ, Some, [], ◌∷◌, ◌≤◌, IfOk, OnOk, OnErr, MatchResult, ⊤};
 ghost use Rattle.r2_link.specs.Faults.{Rose};
-ghost use Rattle.r2_link.specs.Told.{IsKept, Gains};
-ghost use Rattle.r2_link.specs.Lanes.{Received, SentAtMost, IsFault};
-ghost use Rattle.r2_link.specs.declared.lane.Item.{Item};
-ghost use Rattle.r2_base.specs.declared.datagram.Datagram.{Datagram};
+ghost use Rattle.r2_link.specs.Told.{RanDry};
+ghost use Rattle.r2_link.specs.Lanes.{IsFault};
+ghost use Rattle.r2_link.specs.Links.{LinkTold, LinkPasses, SendsAtMost, received};
 
 use r2_base::{Addr, Datagram, Failed, NoMemory};
 use std::alloc::Global;
@@ -31,40 +30,30 @@ pub enum LinkFault {
 
 /// Where datagrams come from and go to.
 pub trait Link: Drop {
-    /// The items that are left to receive, where the link tells them.
-    ghost left: { Self → Option (List Item) };
-
-    /// The datagrams that were sent, where the link tells them.
-    ghost sent: { Self → Option (List Datagram) };
-
-    /// The items of each lane that is left for a twin, where the link tells them.
-    ghost lanes: { Self → Option (List (List Item)) };
+    /// What is left to receive, what was sent, and the address, as far as the link tells them.
+    ghost told: { Self → LinkTold };
 
     /// How often the link has failed.
     ghost faults: { Self → ℕ };
 
     /// Makes `me` the address at which datagrams are received.
     fn bind(&mut self, me: Addr) -> Result<(), Failed>
-        ensures left { IsKept (left self.old) (left self.new) }
-        ensures sent { IsKept (sent self.old) (sent self.new) }
-        ensures lanes { IsKept (lanes self.old) (lanes self.new) }
+        ensures bound { OnOk result (LinkPasses (record (told self.old) { me = Some me }) (told self.new) [] []) }
+        ensures refused { OnErr result (LinkPasses (told self.old) (told self.new) [] []) }
         ensures steady { faults self.old ≤ faults self.new }
         ensures cause { OnErr result (Rose (faults self.old) (faults self.new)) };
 
-    /// The next datagram, for which it waits `wait_ms` milliseconds, or about that.
+    /// The next datagram, for which it waits `wait_ms` milliseconds, or about that. The end comes only where nothing is left.
     fn receive(&mut self, alloc: Global, wait_ms: u64) -> Result<Got, LinkFault>
-        ensures left { MatchResult result (λ got. Received (left self.old) (left self.new) got) (λ _. IsKept (left self.old) (left self.new)) }
-        ensures sent { IsKept (sent self.old) (sent self.new) }
-        ensures lanes { IsKept (lanes self.old) (lanes self.new) }
+        ensures passed { MatchResult result (λ got. LinkPasses (told self.old) (told self.new) (received got) []) (λ _. LinkPasses (told self.old) (told self.new) [] []) }
+        ensures dry { IfOk result (λ got. got ≡ Got.End → RanDry (told self.old).left (told self.new).left) }
         ensures steady { faults self.old ≤ faults self.new }
         ensures cause { MatchResult result (λ _. ⊤) (λ e. IsFault e → Rose (faults self.old) (faults self.new)) };
 
     /// Sends one datagram. A call that failed may have sent it.
     fn send(&mut self, d: &Datagram) -> Result<(), Failed>
-        ensures left { IsKept (left self.old) (left self.new) }
-        ensures sent { OnOk result (Gains (sent self.old) (sent self.new) (d.now ∷ [])) }
-        ensures failed { OnErr result (SentAtMost (sent self.old) (sent self.new) d.now) }
-        ensures lanes { IsKept (lanes self.old) (lanes self.new) }
+        ensures sent { OnOk result (LinkPasses (told self.old) (told self.new) [] (d.now ∷ [])) }
+        ensures failed { OnErr result (SendsAtMost (told self.old) (told self.new) d.now) }
         ensures steady { faults self.old ≤ faults self.new }
         ensures cause { OnErr result (Rose (faults self.old) (faults self.new)) };
 }

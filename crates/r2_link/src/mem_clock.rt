@@ -1,7 +1,6 @@
-ghost use Rattle.std.specs.Prelude.{◌≡◌, ◌+◌, ◌≤◌, Some, [], Contains, MatchResult, if◌then◌else◌, is_ok, IsErr, OnErr, ◌↔◌};
+ghost use Rattle.std.specs.Prelude.{◌≡◌, ◌+◌, ◌≤◌, Some, [], ◌∷◌, Contains, MatchResult, if◌then◌else◌, is_ok, IsErr, OnErr, ◌↔◌};
 ghost use Rattle.r2_link.specs.Faults.{Rose, counted};
-ghost use Rattle.r2_link.specs.Told.{IsKept};
-ghost use Rattle.r2_link.specs.Moments.{Gives, moment_of};
+ghost use Rattle.r2_link.specs.Moments.{Tells, moment_of};
 
 use crate::Clock;
 use crate::calls::is_named;
@@ -53,7 +52,7 @@ impl Clock for MemClock {
     ghost faults = { λ c. c.faults };
 
     fn now(&mut self) -> Result<u64, Failed>
-        ensures moment { MatchResult result (λ n. Gives (Some self.old.left) (Some self.new.left) n) (λ _. IsKept (Some self.old.left) (Some self.new.left)) }
+        ensures moment { MatchResult result (λ n. Tells (Some self.old.left) (Some self.new.left) (n ∷ [])) (λ _. Tells (Some self.old.left) (Some self.new.left) []) }
         ensures steady { self.old.faults ≤ self.new.faults }
         ensures cause { OnErr result (Rose self.old.faults self.new.faults) }
 

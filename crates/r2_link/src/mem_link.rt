@@ -1,8 +1,9 @@
 ghost use Rattle.std.specs.Prelude.{◌≡◌, ℕ, List, ◌+◌, ◌<◌, ◌≤◌, ◌⊎◌, ◌∷◌, ◌++◌, ⊤, length, drop, map, min, Some, [], Contains, MatchResult, if◌then◌else◌, is_ok, IfOk, IfErr, IsErr, IsErrAnd, OnOk, OnErr, ◌↔◌, ◌-◌, ◌^◌};
 ghost use Rattle.r2_link.specs.Faults.{Rose, counted, counted_where};
-ghost use Rattle.r2_link.specs.Memory.{IsTooSmall, room_behind, begun, items_of, next_lane};
-ghost use Rattle.r2_link.specs.Told.{IsKept};
-ghost use Rattle.r2_link.specs.Lanes.{Received, IsFault, is_fault};
+ghost use Rattle.r2_link.specs.Memory.{IsTooSmall, room_behind, begun, next_lane, told_by};
+ghost use Rattle.r2_link.specs.Told.{RanDry};
+ghost use Rattle.r2_link.specs.Lanes.{IsFault, is_fault};
+ghost use Rattle.r2_link.specs.Links.{LinkPasses, Rejoins, SendsAtMost, Splits, received};
 ghost use Rattle.r2_link.specs.Sent.{all_sent, IsReady};
 
 use crate::calls::{is_named, is_refused};
@@ -17,6 +18,7 @@ use std::marker::Model;
 /// it is made. The calls of all its methods but `rejoin` are counted from 1, and those named by its lane fail.
 #[derive(Drop)]
 pub struct MemLink {
+    me: Option<Addr>,
     items: VecDeque<Item>,
     lanes: VecDeque<Lane>,
     sent: Box<SentRecord>,
@@ -32,7 +34,7 @@ impl Model for MemLink {
 
     ghost Value = { LinkState };
 
-    ghost view = { λ a. record { left = a.items.items; sent = all_sent a.sent.value; lanes = a.lanes.items; room = a.room; calls = a.calls; fails = a.fails; faults = a.faults } };
+    ghost view = { λ a. record { me = a.me; left = a.items.items; sent = all_sent a.sent.value; lanes = a.lanes.items; room = a.room; calls = a.calls; fails = a.fails; faults = a.faults } };
 
     ghost invariant = { λ a. IsReady a.sent.value a.room };
 }
@@ -40,10 +42,10 @@ impl Model for MemLink {
 impl MemLink {
     /// A link with a lane of its own, and a lane for each of its first twins.
     pub fn new(alloc: Global, own: Lane, twins: Lanes) -> Result<Self, NoMemory>
-        ensures { IfOk result (λ link. link ≡ begun own twins) }
+        ensures { IfOk result (λ link. link ≡ begun None own twins) }
     {
         let sent = reserve(alloc, own.room)?;
-        Ok(begin(own, VecDeque::from_vec(twins.into_vec()), sent))
+        Ok(begin(None, own, VecDeque::from_vec(twins.into_vec()), sent))
     }
 
     /// All that was sent, also by the twins that came back.
@@ -57,22 +59,21 @@ impl MemLink {
 }
 
 impl Link for MemLink {
-    ghost left = { λ l. Some l.left };
-
-    ghost sent = { λ l. Some l.sent };
-
-    ghost lanes = { λ l. Some (map items_of l.lanes) };
+    ghost told = { λ l. told_by l };
 
     ghost faults = { λ l. l.faults };
 
-    fn bind(&mut self, _me: Addr) -> Result<(), Failed>
-        ensures left { self.new.left ≡ self.old.left }
-        ensures sent { self.new.sent ≡ self.old.sent }
-        ensures lanes { self.new.lanes ≡ self.old.lanes }
+    fn bind(&mut self, me: Addr) -> Result<(), Failed>
+        ensures bound { OnOk result (LinkPasses (record (told_by self.old) { me = Some me }) (told_by self.new) [] []) }
+        ensures refused { OnErr result (LinkPasses (told_by self.old) (told_by self.new) [] []) }
         ensures steady { self.old.faults ≤ self.new.faults }
         ensures cause { OnErr result (Rose self.old.faults self.new.faults) }
 
         ensures exact { IsErr result ↔ (Contains self.old.fails (self.old.calls + 1) ⊎ IsTooSmall self.old.room 0) }
+        ensures me { self.new.me ≡ (if is_ok result then Some me else self.old.me) }
+        ensures left { self.new.left ≡ self.old.left }
+        ensures past { self.new.sent ≡ self.old.sent }
+        ensures lanes { self.new.lanes ≡ self.old.lanes }
         ensures room { self.new.room ≡ (if is_ok result then room_behind self.old.room 0 else self.old.room) }
 
         ensures calls { self.new.calls ≡ counted self.old.calls }
@@ -86,19 +87,22 @@ impl Link for MemLink {
             return Err(Failed);
         }
         self.room.calls -= 1;
+        self.me = Some(me);
         Ok(())
     }
 
     fn receive(&mut self, _alloc: Global, _wait_ms: u64) -> Result<Got, LinkFault>
-        ensures left { MatchResult result (λ got. Received (Some self.old.left) (Some self.new.left) got) (λ _. IsKept (Some self.old.left) (Some self.new.left)) }
-        ensures sent { self.new.sent ≡ self.old.sent }
-        ensures lanes { self.new.lanes ≡ self.old.lanes }
+        ensures passed { MatchResult result (λ got. LinkPasses (told_by self.old) (told_by self.new) (received got) []) (λ _. LinkPasses (told_by self.old) (told_by self.new) [] []) }
+        ensures dry { IfOk result (λ got. got ≡ Got.End → RanDry (Some self.old.left) (Some self.new.left)) }
         ensures steady { self.old.faults ≤ self.new.faults }
         ensures cause { OnErr result (Rose self.old.faults self.new.faults) }
 
         // It takes no memory, and nothing of the room.
         ensures exact { IsErr result ↔ Contains self.old.fails (self.old.calls + 1) }
         ensures failed { IfErr result (λ e. e ≡ LinkFault.Failed) }
+        ensures me { self.new.me ≡ self.old.me }
+        ensures past { self.new.sent ≡ self.old.sent }
+        ensures lanes { self.new.lanes ≡ self.old.lanes }
         ensures room { self.new.room ≡ self.old.room }
 
         ensures calls { self.new.calls ≡ counted self.old.calls }
@@ -119,11 +123,16 @@ impl Link for MemLink {
     }
 
     fn send(&mut self, d: &Datagram) -> Result<(), Failed>
-        ensures left { self.new.left ≡ self.old.left }
-        ensures sent { self.new.sent ≡ (if is_ok result then self.old.sent ++ d.now ∷ [] else self.old.sent) }
-        ensures lanes { self.new.lanes ≡ self.old.lanes }
+        ensures sent { OnOk result (LinkPasses (told_by self.old) (told_by self.new) [] (d.now ∷ [])) }
+        ensures failed { OnErr result (SendsAtMost (told_by self.old) (told_by self.new) d.now) }
         ensures steady { self.old.faults ≤ self.new.faults }
         ensures cause { OnErr result (Rose self.old.faults self.new.faults) }
+
+        // A call that failed sent nothing.
+        ensures me { self.new.me ≡ self.old.me }
+        ensures left { self.new.left ≡ self.old.left }
+        ensures past { self.new.sent ≡ (if is_ok result then self.old.sent ++ d.now ∷ [] else self.old.sent) }
+        ensures lanes { self.new.lanes ≡ self.old.lanes }
 
         ensures exact { IsErr result ↔ (Contains self.old.fails (self.old.calls + 1) ⊎ IsTooSmall self.old.room (length d.now.bytes)) }
         ensures room { self.new.room ≡ (if is_ok result then room_behind self.old.room (length d.now.bytes) else self.old.room) }
@@ -147,14 +156,17 @@ impl Link for MemLink {
 
 impl Twin for MemLink {
     fn twin(&mut self, alloc: Global) -> Result<Self, LinkFault>
-        ensures left { self.new.left ≡ self.old.left }
-        ensures sent { self.new.sent ≡ self.old.sent }
-        ensures lanes { self.new.lanes ≡ (if is_ok result then drop 1 self.old.lanes else self.old.lanes) }
-        ensures twin { IfOk result (λ twin. twin ≡ begun (next_lane self.old.lanes) []) }
+        ensures split { MatchResult result (λ twin. Splits (told_by self.old) (told_by self.new) (told_by twin)) (λ _. LinkPasses (told_by self.old) (told_by self.new) [] []) }
+        ensures unfailed { IfOk result (λ twin. twin.faults ≡ 0) }
         ensures steady { self.old.faults ≤ self.new.faults }
         ensures cause { MatchResult result (λ _. ⊤) (λ e. IsFault e → Rose self.old.faults self.new.faults) }
 
         ensures exact { IsErrAnd result IsFault ↔ Contains self.old.fails (self.old.calls + 1) }
+        ensures twin { IfOk result (λ twin. twin ≡ begun self.old.me (next_lane self.old.lanes) []) }
+        ensures me { self.new.me ≡ self.old.me }
+        ensures left { self.new.left ≡ self.old.left }
+        ensures past { self.new.sent ≡ self.old.sent }
+        ensures lanes { self.new.lanes ≡ (if is_ok result then drop 1 self.old.lanes else self.old.lanes) }
         ensures room { self.new.room ≡ self.old.room }
 
         ensures calls { self.new.calls ≡ counted self.old.calls }
@@ -172,14 +184,19 @@ impl Twin for MemLink {
             Err(NoMemory) => return Err(LinkFault::Memory),
         };
         let lane = take_lane(alloc, &mut self.lanes);
-        Ok(begin(lane, VecDeque::new(alloc), sent))
+        Ok(begin(self.me, lane, VecDeque::new(alloc), sent))
     }
 
     fn rejoin(&mut self, twin: Self)
+        ensures rejoined { Rejoins (told_by self.old) (told_by self.new) (told_by twin) }
+        ensures steady { self.old.faults ≤ self.new.faults }
+        ensures risen { 0 < twin.faults → Rose self.old.faults self.new.faults }
+        ensures calm { twin.faults ≡ 0 → self.new.faults ≡ self.old.faults }
+
+        ensures me { self.new.me ≡ self.old.me }
         ensures left { self.new.left ≡ self.old.left }
         ensures sent { self.new.sent ≡ self.old.sent ++ twin.sent }
         ensures lanes { self.new.lanes ≡ self.old.lanes }
-        ensures steady { self.old.faults ≤ self.new.faults }
         ensures faults { self.new.faults ≡ min (self.old.faults + twin.faults) (2 ^ 64 - 1) }
         ensures room { self.new.room ≡ self.old.room }
         ensures calls { self.new.calls ≡ self.old.calls }
@@ -191,12 +208,13 @@ impl Twin for MemLink {
     }
 }
 
-fn begin(own: Lane, lanes: VecDeque<Lane>, sent: Box<SentRecord>) -> MemLink
+fn begin(me: Option<Addr>, own: Lane, lanes: VecDeque<Lane>, sent: Box<SentRecord>) -> MemLink
     requires unsent { all_sent sent.value ≡ [] }
     requires ready { IsReady sent.value own.room }
-    ensures { result ≡ begun own lanes.items }
+    ensures { result ≡ begun me own lanes.items }
 {
     MemLink {
+        me,
         items: VecDeque::from_vec(own.items.into_vec()),
         lanes,
         sent,

@@ -1,6 +1,7 @@
-ghost use Rattle.std.specs.Prelude.{◌≡◌, ◌≤◌, ⊤, None, IfOk, MatchResult};
+ghost use Rattle.std.specs.Prelude.{◌≡◌, ◌≤◌, ⊤, [], IfOk, MatchResult};
 ghost use Rattle.r2_link.specs.Faults.{Rose};
 ghost use Rattle.r2_link.specs.Lanes.{IsFault, BringsAtMost, most_datagram};
+ghost use Rattle.r2_link.specs.Links.{LinkPasses, received, tells_address};
 
 use crate::{Got, Link, LinkFault, Twin};
 use r2_base::{Addr, Bytes, Datagram, Failed};
@@ -24,7 +25,7 @@ const NO_BUFFERS: i32 = 105;
 /// That the host is down to which a datagram goes.
 const HOST_DOWN: i32 = 112;
 
-/// A UDP socket. It does not tell what came or was sent.
+/// A UDP socket. It tells its address, and not what came or was sent.
 ///
 /// A twin is the same socket, so twins share how long a receive waits: where one of them changes it, the others wait so long, too,
 /// until they change it themselves. Twins that receive at the same time are given the same wait.
@@ -32,7 +33,8 @@ const HOST_DOWN: i32 = 112;
 pub struct UdpLink<'a, R: Net + Sync> {
     rt: &'a R,
     socket: Option<UdpSocket>,
-    me: Addr,
+    /// Where the socket is bound, where there is one.
+    me: Option<Addr>,
     wait: SocketWait,
     faults: u64,
 }
@@ -57,7 +59,7 @@ impl<'a, R: Net + Sync> UdpLink<'a, R> {
         UdpLink {
             rt,
             socket: None,
-            me: Addr { ip: 0, port: 0 },
+            me: None,
             wait: UNKNOWN_WAIT,
             faults: 0,
         }
@@ -65,11 +67,7 @@ impl<'a, R: Net + Sync> UdpLink<'a, R> {
 }
 
 impl<'a, R: Net + Sync> Link for UdpLink<'a, R> {
-    ghost left = { λ l. None };
-
-    ghost sent = { λ l. None };
-
-    ghost lanes = { λ l. None };
+    ghost told = { λ l. tells_address l.me };
 
     ghost faults = { λ l. l.faults };
 
@@ -77,7 +75,7 @@ impl<'a, R: Net + Sync> Link for UdpLink<'a, R> {
         match self.rt.bind_udp(socket_addr(me)) {
             Ok(socket) => {
                 self.socket = Some(socket);
-                self.me = me;
+                self.me = Some(me);
                 self.wait = UNKNOWN_WAIT;
                 Ok(())
             }
@@ -91,19 +89,18 @@ impl<'a, R: Net + Sync> Link for UdpLink<'a, R> {
     /// Hands over at most 2,048 bytes of a datagram. With a wait of 0 it takes what is there already, and doesn't wait. Without an
     /// address it fails.
     fn receive(&mut self, alloc: Global, wait_ms: u64) -> Result<Got, LinkFault>
-        ensures left { MatchResult result (λ _. ⊤) (λ _. ⊤) }
-        ensures sent { ⊤ }
-        ensures lanes { ⊤ }
+        ensures passed { MatchResult result (λ got. LinkPasses (tells_address self.old.me) (tells_address self.new.me) (received got) []) (λ _. LinkPasses (tells_address self.old.me) (tells_address self.new.me) [] []) }
+        ensures dry { IfOk result (λ got. got ≡ Got.End → ⊤) }
         ensures steady { self.old.faults ≤ self.new.faults }
         ensures cause { MatchResult result (λ _. ⊤) (λ e. IsFault e → Rose self.old.faults self.new.faults) }
         ensures size { IfOk result (BringsAtMost most_datagram) }
     {
-        let got = match &self.socket {
-            Some(socket) => match set_wait(socket, &mut self.wait, wait_ms) {
-                Ok(()) => receive_from(alloc, socket, self.me),
+        let got = match (&self.socket, self.me) {
+            (Some(socket), Some(me)) => match set_wait(socket, &mut self.wait, wait_ms) {
+                Ok(()) => receive_from(alloc, socket, me),
                 Err(Failed) => Err(LinkFault::Failed),
             },
-            None => Err(LinkFault::Failed),
+            _ => Err(LinkFault::Failed),
         };
         if let Err(LinkFault::Failed) = got {
             self.faults = self.faults.saturating_add(1);

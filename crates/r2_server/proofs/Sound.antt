@@ -29,8 +29,8 @@ use Rattle.r2_frag.specs.Replies.{IsReply}
 use Rattle.r2_frag.specs.Sizes.{IsBodyWithin}
 use Rattle.r2_frag.proofs.Pending.{pending-added, pending-none, pending-without}
 use Rattle.r2_frag.proofs.Sizes.{added-short}
-use Rattle.hc_service.specs.Service.{serve}
-use Rattle.hc_service.proofs.Short.{no_values, payload_short, served_short}
+use Rattle.hc_store.specs.Service.{serve}
+use Rattle.hc_store.proofs.Short.{no_values, payload_short, served_short}
 use Rattle.r2_server.specs.declared.timers.Timer.{Timer}
 use Rattle.r2_server.specs.Sound.{CanServe, HadTurns, IsPartOfRequest, IsSound, IsSoundWithin, turn_limit}
 use Rattle.r2_server.specs.Laws.{StaysWithinLimits}

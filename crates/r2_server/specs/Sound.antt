@@ -10,8 +10,8 @@ use Rattle.r2_frag.specs.Keys.{class_of}
 use Rattle.r2_frag.specs.Kept.{most_kept}
 use Rattle.r2_frag.specs.Pending.{ArePending}
 use Rattle.r2_frag.specs.Replies.{IsReply}
-use Rattle.hc_service.specs.Short.{AreShort}
-use Rattle.hc_service.specs.State.{most_counted}
+use Rattle.hc_store.specs.Short.{AreShort}
+use Rattle.hc_store.specs.State.{most_counted}
 use Rattle.r2_server.specs.State.{ServerState}
 
 -- a server has fewer turns than this

@@ -3,7 +3,7 @@ use Rattle.std.specs.Prelude.{ℕ, List, [], Option}
 use Rattle.r2_base.specs.declared.addr.Addr.{Addr}
 use Rattle.r2_frag.specs.declared.kept.KeptReply.{KeptReply}
 use Rattle.r2_frag.specs.declared.unfinished.Unfinished.{Unfinished}
-use Rattle.hc_service.specs.State.{State, new_state}
+use Rattle.hc_store.specs.State.{State, new_state}
 use Rattle.r2_server.specs.declared.timers.Timer.{Timer}
 
 -- its address and its router's, the replies that it keeps, the oldest at the head, the messages that aren't whole yet, the

@@ -21,9 +21,9 @@ use Rattle.r2_frag.specs.Assembly.{added}
 use Rattle.r2_frag.specs.Kept.{kept_with, newest}
 use Rattle.r2_frag.specs.Keys.{key_at}
 use Rattle.r2_frag.specs.Replies.{reply_parts}
-use Rattle.hc_service.specs.Replies.{reply_of}
-use Rattle.hc_service.specs.Service.{Served, serve}
-use Rattle.hc_service.specs.State.{after_write}
+use Rattle.hc_store.specs.Replies.{reply_of}
+use Rattle.hc_store.specs.Service.{Served, serve}
+use Rattle.hc_store.specs.State.{after_write}
 use Rattle.r2_server.specs.Notices.{feedback, feedback_for, ready}
 use Rattle.r2_server.specs.State.{ServerState}
 use Rattle.r2_server.specs.Timers.{due, given_up, not_due, started_for, stopped_for}

@@ -13,9 +13,9 @@ ghost use Rattle.r2_frag.specs.declared.added.Added.TheVariants.{Bad};
 ghost use Rattle.r2_frag.specs.declared.added.Why.{Why};
 ghost use Rattle.r2_frag.specs.declared.class.Class.TheVariants.{Request};
 ghost use Rattle.r2_base.specs.declared.entry.Kind.TheVariants.{Write};
-ghost use Rattle.hc_service.specs.Service.{serve};
-ghost use Rattle.hc_service.specs.Short.{AreShort};
-ghost use Rattle.hc_service.specs.State.{most_counted, new_state};
+ghost use Rattle.hc_store.specs.Service.{serve};
+ghost use Rattle.hc_store.specs.Short.{AreShort};
+ghost use Rattle.hc_store.specs.State.{most_counted, new_state};
 ghost use Rattle.r2_server.specs.Ignored.{IsBadPart, IsIgnored, IsIgnoredAs};
 ghost use Rattle.r2_server.specs.Notices.{feedback};
 ghost use Rattle.r2_server.specs.Sound.{CanServe, IsPartOfRequest, IsSound, turn_limit};
@@ -25,7 +25,7 @@ ghost use Rattle.r2_server.specs.Turn.{calls, is_router, is_taken};
 use crate::notices::{push_feedback, push_feedback_for, ready};
 use crate::timers::{Timer, Timers, is_due};
 use crate::writes::Writes;
-use hc_service::payload_of;
+use hc_store::payload_of;
 use r2_base::{Addr, Datagram, Datagrams, Event, NoMemory, Rid};
 use r2_frag::{Added, Assembly, Class, Kept, Key, key_of, reply_parts};
 use r2_header::policy::{FIXED, JBSQ};
@@ -52,7 +52,7 @@ pub(crate) struct LiveServer<V: Writes> {
 impl<V: Writes> Model for LiveServer<V> {
     ghost use Rattle.std.specs.Prelude.{◌≡◌};
     ghost use Rattle.std.specs.Coded.{codes};
-    ghost use Rattle.hc_service.specs.State.{contents_code};
+    ghost use Rattle.hc_store.specs.State.{contents_code};
     ghost use Rattle.r2_server.specs.State.{ServerState};
 
     ghost Value = { ServerState };

@@ -1,5 +1,5 @@
 ghost use Rattle.std.specs.Prelude.{◌≡◌, ◌+◌, ℕ, [], Some, None, Ok, IfOk, OnOk, OnErr, is_none};
-ghost use Rattle.hc_service.specs.State.{new_state};
+ghost use Rattle.hc_store.specs.State.{new_state};
 ghost use Rattle.r2_server.specs.Ignored.{IsIgnored};
 ghost use Rattle.r2_server.specs.Sound.{CanTurn, HadTurns, IsSoundUnlessSpent};
 
@@ -23,7 +23,7 @@ pub struct Server<V: Writes> {
 impl<V: Writes> Model for Server<V> {
     ghost use Rattle.std.specs.Prelude.{Option};
     ghost use Rattle.std.specs.Coded.{codes};
-    ghost use Rattle.hc_service.specs.State.{contents_code};
+    ghost use Rattle.hc_store.specs.State.{contents_code};
     ghost use Rattle.r2_server.specs.Sound.{IsSoundUnlessSpent};
     ghost use Rattle.r2_server.specs.State.{ServerState};
 

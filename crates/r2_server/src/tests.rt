@@ -3,7 +3,7 @@
 ghost use Rattle.std.specs.Prelude.{◌<◌, ◌^◌, length};
 
 use crate::Server;
-use hc_service::Kv;
+use hc_store::Kv;
 use r2_base::{Addr, Addrs, Bytes, Datagram, Datagrams, Event};
 use std::alloc::Global;
 use std::test::Fail;

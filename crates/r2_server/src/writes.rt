@@ -1,9 +1,9 @@
 ghost use Rattle.std.specs.Prelude.{◌≡◌, ◌<◌, ◌^◌, IfOk, OnErr, OnOk};
 ghost use Rattle.r2_base.specs.declared.entry.Kind.TheVariants.{Write};
-ghost use Rattle.hc_service.specs.Service.{serve};
-ghost use Rattle.hc_service.specs.State.{State, after_write};
+ghost use Rattle.hc_store.specs.Service.{serve};
+ghost use Rattle.hc_store.specs.State.{State, after_write};
 
-use hc_service::{Reply, Service};
+use hc_store::{Reply, Service};
 use r2_base::NoMemory;
 use std::alloc::Global;
 

@@ -1,12 +1,20 @@
-use Rattle.std.proofs.Common.{◌≡◌, nat_lt, false, sym, ◌∙◌}
-use Rattle.cmd_loop.specs.Events.{elapsed}
-use Rattle.cmd_loop.proofs.Rounds.{asks-clock}
+use Rattle.std.proofs.Common.{sym, ◌∙◌}
+use Rattle.cmd_loop.proofs.Ticks.{none-due, tick-made, tick-stops}
 use Rattle.cmd_loop.proofs.round.ask_clock.Goals as goal
 
 pub returns-else-pass_tick-clause-made : goal.returns-else-pass_tick-clause-made
-returns-else-pass_tick-clause-made g c =
-    let t = c.args.ticker.now in
-    let moment = c.in-Ok.moment in
-    let not_due : nat_lt t.reached (elapsed t.tick_ms t.start moment) ≡ false = sym c.pass_tick.ensures.due ∙ c.if-pass_tick.false in
-    asks-clock g.P.Party.turned c.args.party.now t c.pass_tick.new.self (g.L.Link.left c.args.link.now) (g.L.Link.sent c.args.link.now)
-    (g.C.Clock.left c.args.clock.now) (g.C.Clock.left c.now.new.self) moment c.in-Ok.ensures.moment not_due c.pass_tick.ensures.counted
+returns-else-pass_tick-clause-made g c o =
+    none-due g.P.Party.turned c.args.party.now c.args.ticker.now c.pass_tick.new.self (g.L.Link.told c.args.link.now) (g.J.Journal.records c.args.journal.now)
+    (g.C.Clock.left c.args.clock.now) (g.C.Clock.left c.now.new.self) c.in-Ok.moment o c.in-Ok.ensures.moment (sym c.pass_tick.ensures.due ∙ c.if-pass_tick.false) c.pass_tick.ensures.counted
+
+pub returns-in_default-make_tick-clause-made : goal.returns-in_default-make_tick-clause-made
+returns-in_default-make_tick-clause-made g c o =
+    tick-made g.P.Party.turned c.args.party.now c.make_tick.new.party c.args.ticker.now c.pass_tick.new.self (g.L.Link.told c.args.link.now) (g.L.Link.told c.make_tick.new.link)
+    (g.J.Journal.records c.args.journal.now) (g.J.Journal.records c.make_tick.new.journal) (g.C.Clock.left c.args.clock.now) (g.C.Clock.left c.now.new.self) c.in-Ok.moment o
+    c.in-Ok.ensures.moment (sym c.pass_tick.ensures.due ∙ c.if-pass_tick.true) c.pass_tick.ensures.counted (c.in_default-make_tick.ensures.made (record o { clock = g.C.Clock.left c.now.new.self }))
+
+pub returns-in-Err-clause-stops : goal.returns-in-Err-clause-stops
+returns-in-Err-clause-stops g c o =
+    tick-stops g.P.Party.turned c.args.party.now c.args.ticker.now (g.L.Link.told c.args.link.now) (g.L.Link.told c.make_tick.new.link)
+    (g.J.Journal.records c.args.journal.now) (g.J.Journal.records c.make_tick.new.journal) (g.C.Clock.left c.args.clock.now) (g.C.Clock.left c.now.new.self) c.in-Ok.moment o c.in-Err.status
+    c.in-Ok.ensures.moment (sym c.pass_tick.ensures.due ∙ c.if-pass_tick.true) (c.in-Err.ensures.stops (record o { clock = g.C.Clock.left c.now.new.self }))

@@ -1,18 +1,18 @@
 -- An empty text does nothing; another is read as a line, and run.
-use Rattle.cmd_replay.proofs.Runs.{ran-nothing, one_line, ran-line, stops-line, empty_text, some_text}
+use Rattle.cmd_replay.proofs.Runs.{ran-nothing, ran-line, stops-line, empty_text, some_text}
 use Rattle.cmd_replay.proofs.running.run_text.Goals as goal
 
 pub returns-then-is_empty-clause-ran : goal.returns-then-is_empty-clause-ran
 returns-then-is_empty-clause-ran g c =
-    ran-nothing c.args.setup.now c.args.member.now c.args.text.now (g.K.Sink.written c.args.sink.now) c.requires.text
+    ran-nothing c.args.setup.now c.args.member.now c.args.text.now (g.K.Sink.written c.args.sink.now)
     (empty_text c.args.text.now c.is_empty.result c.is_empty.ensures c.if-is_empty.true)
 
 pub returns-clause-ran : goal.returns-clause-ran
 returns-clause-ran g c =
-    let known = one_line c.args.text.now c.in-Ok.line c.requires.text (some_text c.args.text.now c.is_empty.result c.is_empty.ensures c.if-is_empty.false) c.in-Ok.ensures.found in
-    ran-line c.args.setup.now c.args.member.now c.args.text.now c.in-Ok.line c.run_line.new.member _ _ known c.in_default.ensures.state c.in_default.ensures.whole
+    ran-line c.args.setup.now c.args.member.now c.run_line.new.member c.args.text.now c.in-Ok.line _ _
+    (some_text c.args.text.now c.is_empty.result c.is_empty.ensures c.if-is_empty.false) c.in-Ok.ensures.found c.in_default.ensures.state c.in_default.ensures.whole
 
 pub returns-in-Err-clause-stops : goal.returns-in-Err-clause-stops
 returns-in-Err-clause-stops g c =
-    let known = one_line c.args.text.now c.in-Ok.line c.requires.text (some_text c.args.text.now c.is_empty.result c.is_empty.ensures c.if-is_empty.false) c.in-Ok.ensures.found in
-    stops-line c.args.setup.now c.args.member.now c.args.text.now c.in-Ok.line c.args.number _ _ _ _ c.in-Err.status c.in-Err.ensures.stops known c.in-Err.ensures.front
+    stops-line c.args.setup.now c.args.member.now c.args.text.now c.in-Ok.line c.args.number _ _ _ _ c.in-Err.status c.in-Err.ensures.stops
+    (some_text c.args.text.now c.is_empty.result c.is_empty.ensures c.if-is_empty.false) c.in-Ok.ensures.found c.in-Err.ensures.front

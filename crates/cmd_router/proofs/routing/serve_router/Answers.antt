@@ -1,31 +1,43 @@
 -- The loop over a new router is one over the empty history, and the totals are those of what its events made of it.
-use Rattle.std.proofs.Common.{List, sym, subst}
+use Rattle.std.proofs.Common.{List, None, arith}
 use Rattle.r2_base.specs.declared.datagram.Datagram.{Datagram}
 use Rattle.r2_base.specs.declared.event.Event.{Event}
+use Rattle.r2_link.specs.Faults.{Rose}
 use Rattle.r2_jbsq.specs.declared.router_setup.RouterSetup.{RouterSetup}
-use Rattle.cmd_router.specs.declared.router_totals.RouterTotals.{RouterTotals}
+use Rattle.cmd_loop.specs.Ends.{Ends}
+use Rattle.cmd_loop.specs.Happenings.{events_of}
+use Rattle.cmd_loop.specs.Plain.{Unstored}
 use Rattle.cmd_router.specs.Routed.{RouterSends}
 use Rattle.cmd_router.specs.Totals.{totals_line}
-use Rattle.cmd_router.specs.Twins.{Around}
-use Rattle.cmd_router.proofs.Routes.{Counted, new-counted, new-sends, routes-of}
+use Rattle.cmd_router.proofs.Routes.{Counted, ends-well, new-counted, new-sends, routes-of, unstored-gives}
 use Rattle.cmd_router.proofs.Twins.{on-twin-weaker}
 use Rattle.cmd_router.proofs.routing.serve_router.Goals as goal
 
 pub returns-in-Ok-serve_on_twin-clause-ran : goal.returns-in-Ok-serve_on_twin-clause-ran
-returns-in-Ok-serve_on_twin-clause-ran g c =
+returns-in-Ok-serve_on_twin-clause-ran g c o =
     let setup : RouterSetup = record { me = c.args.me; servers = c.args.servers; n = c.args.n } in
-    let a : Around = record { lanes = g.L.Link.lanes c.args.link.now; sent = g.L.Link.sent c.args.link.now; clock = g.C.Clock.left c.args.clock.now } in
-    let b : Around = record { lanes = g.L.Link.lanes c.serve_on_twin.new.link; sent = g.L.Link.sent c.serve_on_twin.new.link; clock = g.C.Clock.left c.serve_on_twin.new.clock } in
-    let t = c.totals.result in
-    let line = totals_line t.turns t.accepted t.forwarded t.answered in
+    let a : Ends = record o { written = g.K.Sink.written c.args.sink.now; link = g.L.Link.told c.args.link.now; clock = g.C.Clock.left c.args.clock.now } in
+    let looped : Ends = record a { link = g.L.Link.told c.serve_on_twin.new.link; clock = g.C.Clock.left c.serve_on_twin.new.clock } in
+    let b : Ends = record looped { written = g.K.Sink.written c.tell_end.new.sink } in
     let first = c.in-Ok.party in
-    let last = c.serve_on_twin.new.party in
+    let last = c.serve_on_twin.new.party.party in
+    let line = totals_line last.turns last.router.accepted last.router.forwarded last.router.answered in
     let counted : (events : List Event) (sends : List Datagram) → _ → Counted setup line events sends =
-    λ events sends becomes.
-    subst (λ (u : RouterTotals). Counted setup (totals_line u.turns u.accepted u.forwarded u.answered) events sends) (sym c.totals.ensures)
-    (new-counted setup first.router last.router first.turns last.turns events sends c.in-Ok.ensures.0 c.in-Ok.ensures.1 becomes) in
-    routes-of setup c.args.pace line a b (g.K.Sink.written c.args.sink.now) (g.K.Sink.written c.tell_end.new.sink) c.in-Ok-serve_on_twin.ended c.tell_end.result
-    (on-twin-weaker _ (Counted setup line) _ (RouterSends setup) counted
-    (λ events sends becomes. new-sends setup first.router becomes.0.router first.turns becomes.0.turns events sends c.in-Ok.ensures.0 becomes.1)
-    c.args.pace a b c.in-Ok-serve_on_twin.ended c.in-Ok-serve_on_twin.ensures.ran)
-    c.tell_end.ensures.untold c.tell_end.ensures.told
+    λ events sends becomes. new-counted setup first.router last.router first.turns last.turns events sends c.in-Ok.ensures.0 c.in-Ok.ensures.1 becomes in
+    routes-of setup c.args.pace line a b c.in-Ok-serve_on_twin.ended c.tell_end.result
+    (on-twin-weaker _ (Unstored (Counted setup line)) _ (Unstored (Counted setup line)) _ (Unstored (RouterSends setup))
+    (unstored-gives _ (Counted setup line) counted) (unstored-gives _ (Counted setup line) counted)
+    (λ happened stored sends right. (right.0, new-sends setup first.router right.1.0.router first.turns right.1.0.turns (events_of happened) sends c.in-Ok.ensures.0 right.1.1))
+    c.args.pace a looped c.in-Ok-serve_on_twin.ended (c.in-Ok-serve_on_twin.ensures.ran (record o { written = g.K.Sink.written c.args.sink.now })))
+    c.tell_end.ensures.untold (rw c.totals.ensures at c.tell_end.ensures.told)
+    (λ is. omega (arith, c.in-Ok-serve_on_twin.ensures.caused.disk is))
+
+pub returns-in-Ok-serve_on_twin-clause-complete : goal.returns-in-Ok-serve_on_twin-clause-complete
+returns-in-Ok-serve_on_twin-clause-complete g c =
+    let link = g.L.Link.told c.args.link.now in
+    let untold : Ends = record { source = None; written = None; link = link; clock = None; records = None } in
+    ends-well _ _ _ c.args.pace (record untold { clock = g.C.Clock.left c.args.clock.now })
+    (record untold { link = g.L.Link.told c.serve_on_twin.new.link; clock = g.C.Clock.left c.serve_on_twin.new.clock })
+    (g.L.Link.faults c.args.link.now) (g.L.Link.faults c.serve_on_twin.new.link) (g.C.Clock.faults c.args.clock.now) (g.C.Clock.faults c.serve_on_twin.new.clock)
+    (Rose (g.K.Sink.faults c.args.sink.now) (g.K.Sink.faults c.tell_end.new.sink)) c.in-Ok-serve_on_twin.ended c.tell_end.result
+    (c.in-Ok-serve_on_twin.ensures.ran untold) c.in-Ok-serve_on_twin.ensures.caused c.tell_end.ensures.cause

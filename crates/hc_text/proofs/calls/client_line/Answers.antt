@@ -2,7 +2,7 @@
 use Rattle.std.proofs.Common.{◌≡◌, sym, ◌∙◌, codes}
 use Rattle.std.specs.Cmp.Lexicographic.{same_text, other_text}
 use Rattle.std.proofs.lemmas.Result.{IfOk-weaker}
-use Rattle.hc_service.specs.Command.{Get, Put, Del, Cas, Scan, Count}
+use Rattle.hc_store.specs.Command.{Get, Put, Del, Cas, Scan, Count}
 use Rattle.hc_text.specs.Call.{call_of}
 use Rattle.hc_text.proofs.CallLines.{along, cas_only, count_only, del_line, del_only, get_line, get_only, line_cut, line_parts, not_outside, other_only, put_only, raw_only, scan_only}
 use Rattle.hc_text.proofs.calls.client_line.Goals as goal

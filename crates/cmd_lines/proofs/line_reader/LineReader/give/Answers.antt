@@ -10,5 +10,5 @@ invariant_of-self c =
     let within : c.args.gone ≤ length (drop a.start a.buffer.items) =
     subst (λ (s : ReaderState). c.args.gone ≤ length s.pending) (sym c.self.view_is) c.requires.within in (
       omega (arith, within, length-drop a.start a.buffer.items, c.self.invariant.0),
-      sound_behind a.buffer.items a.start c.args.gone a.taken a.lines a.ended c.self.invariant.1 c.requires.some within,
+      sound_behind a.buffer.items a.start c.args.gone a.taken a.lines a.longest a.ended c.self.invariant.1 c.requires.some within,
     )

@@ -10,5 +10,6 @@ pub returns-in-Line-clause-answer : goal.returns-in-Line-clause-answer
 returns-in-Line-clause-answer c =
     let now = c.args.self.now in
     let is = waiting c.deref.result.now c.self.inside.buffer.items now.pending c.self.inside.start c.deref.ensures.value (ap (λ (s : ReaderState). s.pending) c.self.view_is) in
-    let front = subst (λ (l : List ℕ). IsLineLen l c.in-Line.field-0) is c.in-Line.ensures in
-    ((λ no. absurd (cc)), (λ part. absurd (line_len_is_no_part now.pending c.in-Line.field-0 front part.0)))
+    let longest = ap (λ (s : ReaderState). s.longest) c.self.view_is in
+    let front = subst (λ (n : ℕ). IsLineLen n now.pending c.in-Line.field-0) longest (subst (λ (l : List ℕ). IsLineLen c.self.inside.longest l c.in-Line.field-0) is c.in-Line.ensures) in
+    ((λ no. absurd (cc)), (λ part. absurd (line_len_is_no_part now.longest now.pending c.in-Line.field-0 front part.0)))

@@ -12,12 +12,13 @@ returns-clause-reads g c =
       taken = far.taken;
       took = far.took;
       counted = c.hand_out.ensures.taken ∙ far.counted;
+      limit = c.hand_out.ensures.limit ∙ far.limit;
       lazy = λ known. elim c.reads.invariant.lazy [
         | inl same ↦ took_none old now _ _ far same.0
         | inr may ↦ absurd (may_not old may known)
       ];
       needed = far.needed;
-      did = answers_held old now c.hand_out.new.self far.taken c.hand_out.result far.waits far.lines c.hand_out.ensures.answers;
+      did = answers_held old now c.hand_out.new.self far.taken c.hand_out.result far.limit far.waits far.lines c.hand_out.ensures.answers;
     }
 
 pub returns-clause-lazy : goal.returns-clause-lazy

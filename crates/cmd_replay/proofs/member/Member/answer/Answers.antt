@@ -1,6 +1,6 @@
 -- The payload of a reply with a short value is within its limit.
 use Rattle.std.proofs.Common.{length, ap, ◌∙◌, arith}
-use Rattle.hc_service.proofs.Short.{payload_short}
+use Rattle.hc_store.proofs.Short.{payload_short}
 use Rattle.cmd_replay.proofs.member.Member.answer.Goals as goal
 
 pub reply_parts-requires-clause-payload : goal.reply_parts-requires-clause-payload

@@ -8,8 +8,8 @@ use Rattle.cmd_replay.specs.Turn.{Sent, applied_all, batch_of}
 use Rattle.std.specs.Prelude.{All, ◌≤◌, List}
 use Rattle.std.proofs.Common.{subst}
 use Rattle.r2_base.specs.Limits.{most_body}
-use Rattle.cmd_replay.proofs.Counts.{writes_of-front, own_reads_of-front}
-use Rattle.cmd_replay.specs.Operations.{IsReplayed}
+use Rattle.hc_service.proofs.Counts.{writes_of-front, own_reads_of-front}
+use Rattle.hc_service.specs.Entries.{IsReplayed}
 use Rattle.cmd_replay.proofs.Replayed.{applied_one-replayed}
 use Rattle.cmd_replay.proofs.Answering.{CanAnswer, applied_one-answers}
 use Rattle.cmd_replay.proofs.Applying.{applied_one-leaves, batch_step, batch_end}

@@ -4,7 +4,7 @@ use Rattle.std.specs.Prelude.{All}
 use Rattle.r2_base.specs.Limits.{most_body}
 use Rattle.hc_log.specs.declared.stored.Stored.{Stored}
 use Rattle.hc_log.specs.Log.{requests_of}
-use Rattle.cmd_replay.specs.Operations.{IsReplayed}
+use Rattle.hc_service.specs.Entries.{IsReplayed}
 use Rattle.cmd_replay.specs.Turn.{applied_all, batch_of}
 use Rattle.cmd_replay.proofs.Answering.{CanAnswer}
 use Rattle.cmd_replay.proofs.member.Member.apply_batch.Given as goal

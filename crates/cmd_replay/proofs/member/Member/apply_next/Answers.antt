@@ -3,11 +3,11 @@ use Rattle.std.proofs.Common.{◌≡◌, ◌<◌, ◌≤◌, ℕ, List, length, 
 use Rattle.std.specs.Prelude.{All}
 use Rattle.r2_base.specs.Limits.{most_body}
 use Rattle.r2_base.specs.declared.entry.Kind.TheVariants.{Write, Read}
-use Rattle.hc_service.specs.State.{State}
-use Rattle.hc_service.specs.Short.{AreShort}
+use Rattle.hc_store.specs.State.{State}
+use Rattle.hc_store.specs.Short.{AreShort}
 use Rattle.hc_log.specs.Log.{blank_of}
 use Rattle.hc_log.specs.declared.stored.Stored.{Stored}
-use Rattle.hc_service.proofs.Short.{served_short}
+use Rattle.hc_store.proofs.Short.{served_short}
 use Rattle.cmd_replay.proofs.member.Member.apply_next.Goals as goal
 
 -- what a look-up of the next entry gave has a short body

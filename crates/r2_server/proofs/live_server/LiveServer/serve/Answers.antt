@@ -1,8 +1,8 @@
 use Rattle.std.proofs.Common.{sym, subst}
 use Rattle.r2_base.specs.declared.entry.Kind.TheVariants.{Write}
-use Rattle.hc_service.specs.Short.{AreShort}
+use Rattle.hc_store.specs.Short.{AreShort}
 use Rattle.r2_server.specs.State.{ServerState}
-use Rattle.hc_service.proofs.Short.{payload_short, served_short}
+use Rattle.hc_store.proofs.Short.{payload_short, served_short}
 use Rattle.r2_server.proofs.live_server.LiveServer.serve.Goals as goal
 
 pub reply_parts-requires-clause-payload : goal.reply_parts-requires-clause-payload

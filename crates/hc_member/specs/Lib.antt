@@ -1,0 +1,17 @@
+pub mod Setup
+pub mod Member
+pub mod Heard
+pub mod Sending
+pub mod Outcome
+pub mod Votes
+pub mod Orders
+pub mod Reports
+pub mod Bodies
+pub mod Ticks
+pub mod Finish
+pub mod Turn
+pub mod Sound
+pub mod Laws
+pub mod Worked
+pub mod Examples
+pub mod Situations

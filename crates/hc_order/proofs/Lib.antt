@@ -1,0 +1,7 @@
+pub mod Greatest
+pub mod Growing
+pub mod Apart
+pub mod Orders
+pub mod Agreed
+pub mod Takings
+pub mod Orderings

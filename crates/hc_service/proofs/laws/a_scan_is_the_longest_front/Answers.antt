@@ -1,5 +1,0 @@
-use Rattle.hc_service.proofs.Fronts.{a_scan_is_the_longest_front}
-use Rattle.hc_service.proofs.laws.a_scan_is_the_longest_front.Goals as goal
-
-pub returns : goal.returns
-returns c = a_scan_is_the_longest_front

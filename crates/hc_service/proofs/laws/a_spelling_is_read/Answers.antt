@@ -1,5 +1,0 @@
-use Rattle.hc_service.proofs.Spells.{a_spelling_is_read}
-use Rattle.hc_service.proofs.laws.a_spelling_is_read.Goals as goal
-
-pub returns : goal.returns
-returns c = a_spelling_is_read

@@ -1,5 +1,0 @@
-use Rattle.hc_service.proofs.Short.{served_short}
-use Rattle.hc_service.proofs.laws.answers_are_short.Goals as goal
-
-pub returns : goal.returns
-returns c = served_short

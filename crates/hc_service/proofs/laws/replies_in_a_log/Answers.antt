@@ -1,5 +1,0 @@
-use Rattle.hc_service.proofs.InOrder.{replies_in_a_log}
-use Rattle.hc_service.proofs.laws.replies_in_a_log.Goals as goal
-
-pub returns : goal.returns
-returns c = replies_in_a_log

@@ -1,5 +1,0 @@
-use Rattle.hc_service.proofs.Changes.{stays_within_its_size}
-use Rattle.hc_service.proofs.laws.stays_within_its_size.Goals as goal
-
-pub returns : goal.returns
-returns c = stays_within_its_size

@@ -1,5 +1,0 @@
-use Rattle.hc_service.proofs.Short.{values_stay_short}
-use Rattle.hc_service.proofs.laws.values_stay_short.Goals as goal
-
-pub returns : goal.returns
-returns c = values_stay_short

@@ -1,0 +1,10 @@
+pub mod Maps
+pub mod Sizes
+pub mod Scans
+pub mod Changes
+pub mod OnePair
+pub mod InOrder
+pub mod Fronts
+pub mod Spells
+pub mod Short
+pub mod Stand

@@ -1,0 +1,11 @@
+pub mod Command
+pub mod Service
+pub mod Replies
+pub mod Asked
+pub mod Tree
+pub mod State
+pub mod Spelling
+pub mod Short
+pub mod Operations
+pub mod Examples
+pub mod Laws

@@ -1,0 +1,166 @@
+ghost use Rattle.std.specs.Prelude.{◌≡◌, false};
+ghost use Rattle.r2_link.specs.Faults.{NoneFalls};
+ghost use Rattle.cmd_status.specs.Causes.{IsCaused};
+ghost use Rattle.cmd_status.specs.declared.status.Status.TheVariants.{BadWords};
+ghost use Rattle.hc_tops.specs.Commands.{IsCalm, RunsBound, ends, fault_counts, row};
+
+use crate::binding::{bind_first, listens_at};
+use cmd_client::{Calling, call_client};
+use cmd_loop::Pace;
+use cmd_replay::{Setup, replay};
+use cmd_router::serve_router;
+use cmd_server::serve_plain;
+use cmd_status::Status;
+use hc_store::Kv;
+use hc_text::Meant;
+use r2_link::{Clock, Link, Sink, Source, Twin};
+use std::alloc::Global;
+
+/// Runs a command that is plain, whose link is bound.
+fn run_bound<S: Source, K: Sink, L: Link, C: Clock>(
+    alloc: Global,
+    meant: Meant,
+    source: &mut S,
+    sink: &mut K,
+    link: &mut L,
+    clock: &mut C,
+) -> Status
+    requires within { (row meant).is_within }
+    requires plain { (row meant).is_plain }
+
+    ensures did { (row meant).runs (ends (S.left source.old) (K.written sink.old) (L.told link.old) (C.left clock.old))
+        (ends (S.left source.new) (K.written sink.new) (L.told link.new) (C.left clock.new)) result }
+    ensures well { IsCalm (row meant).uses (fault_counts (S.faults source.old) (K.faults sink.old) (L.faults link.old) (C.faults clock.old)) (fault_counts (S.faults source.new) (K.faults sink.new) (L.faults link.new) (C.faults clock.new)) → (row meant).ends_well (S.left source.old) result }
+    ensures known { result ≡ BadWords → ⊥ }
+    ensures caused { IsCaused (fault_counts (S.faults source.old) (K.faults sink.old) (L.faults link.old) (C.faults clock.old)) (fault_counts (S.faults source.new) (K.faults sink.new) (L.faults link.new) (C.faults clock.new)) result }
+    ensures steady { NoneFalls (fault_counts (S.faults source.old) (K.faults sink.old) (L.faults link.old) (C.faults clock.old)) (fault_counts (S.faults source.new) (K.faults sink.new) (L.faults link.new) (C.faults clock.new)) }
+
+    ensures source_kept { (row meant).uses.source ≡ false → source.new ≡ source.old }
+    ensures sink_kept { (row meant).uses.sink ≡ false → sink.new ≡ sink.old }
+    ensures link_kept { (row meant).uses.link ≡ false → link.new ≡ link.old }
+    ensures clock_kept { (row meant).uses.clock ≡ false → clock.new ≡ clock.old }
+{
+    match meant {
+        Meant::Router { .. } => unreachable!(),
+        Meant::Server { .. } => unreachable!(),
+        Meant::Client {
+            listen,
+            to,
+            policy,
+            wait,
+            tries,
+            tick_ms,
+            turns,
+        } => {
+            let calling = Calling {
+                listen,
+                to,
+                policy,
+                wait,
+                tries,
+            };
+            let pace = Pace { tick_ms, turns };
+            call_client(alloc, calling, source, sink, link, clock, pace)
+        }
+        Meant::Replay {
+            members,
+            me,
+            aggregator,
+            bound,
+            election,
+        } => {
+            let setup = Setup {
+                members,
+                me,
+                aggregator,
+                bound,
+                election,
+            };
+            replay(alloc, setup, source, sink)
+        }
+    }
+}
+
+/// Binds the link where a command listens, and runs the command, one that is plain.
+pub(crate) fn run_plain_meant<S: Source, K: Sink, L: Link, C: Clock>(
+    alloc: Global,
+    meant: Meant,
+    source: &mut S,
+    sink: &mut K,
+    link: &mut L,
+    clock: &mut C,
+) -> Status
+    requires within { (row meant).is_within }
+    requires plain { (row meant).is_plain }
+
+    ensures did { RunsBound (row meant).listens (row meant).runs (ends (S.left source.old) (K.written sink.old) (L.told link.old) (C.left clock.old))
+        (ends (S.left source.new) (K.written sink.new) (L.told link.new) (C.left clock.new)) result }
+    ensures well { IsCalm (row meant).uses (fault_counts (S.faults source.old) (K.faults sink.old) (L.faults link.old) (C.faults clock.old)) (fault_counts (S.faults source.new) (K.faults sink.new) (L.faults link.new) (C.faults clock.new)) → (row meant).ends_well (S.left source.old) result }
+    ensures known { result ≡ BadWords → ⊥ }
+    ensures caused { IsCaused (fault_counts (S.faults source.old) (K.faults sink.old) (L.faults link.old) (C.faults clock.old)) (fault_counts (S.faults source.new) (K.faults sink.new) (L.faults link.new) (C.faults clock.new)) result }
+    ensures steady { NoneFalls (fault_counts (S.faults source.old) (K.faults sink.old) (L.faults link.old) (C.faults clock.old)) (fault_counts (S.faults source.new) (K.faults sink.new) (L.faults link.new) (C.faults clock.new)) }
+
+    ensures source_kept { (row meant).uses.source ≡ false → source.new ≡ source.old }
+    ensures sink_kept { (row meant).uses.sink ≡ false → sink.new ≡ sink.old }
+    ensures link_kept { (row meant).uses.link ≡ false → link.new ≡ link.old }
+    ensures clock_kept { (row meant).uses.clock ≡ false → clock.new ≡ clock.old }
+{
+    if let Err(status) = bind_first(listens_at(&meant), link) {
+        return status;
+    }
+    run_bound(alloc, meant, source, sink, link, clock)
+}
+
+/// Binds the link where a command listens, and runs the command.
+pub(crate) fn run_meant<S: Source, K: Sink, L: Twin, C: Clock>(
+    alloc: Global,
+    meant: Meant,
+    source: &mut S,
+    sink: &mut K,
+    link: &mut L,
+    clock: &mut C,
+) -> Status
+    requires { (row meant).is_within }
+
+    ensures did { RunsBound (row meant).listens (row meant).runs (ends (S.left source.old) (K.written sink.old) (L.told link.old) (C.left clock.old))
+        (ends (S.left source.new) (K.written sink.new) (L.told link.new) (C.left clock.new)) result }
+    ensures well { IsCalm (row meant).uses (fault_counts (S.faults source.old) (K.faults sink.old) (L.faults link.old) (C.faults clock.old)) (fault_counts (S.faults source.new) (K.faults sink.new) (L.faults link.new) (C.faults clock.new)) → (row meant).ends_well (S.left source.old) result }
+    ensures known { result ≡ BadWords → ⊥ }
+    ensures caused { IsCaused (fault_counts (S.faults source.old) (K.faults sink.old) (L.faults link.old) (C.faults clock.old)) (fault_counts (S.faults source.new) (K.faults sink.new) (L.faults link.new) (C.faults clock.new)) result }
+    ensures steady { NoneFalls (fault_counts (S.faults source.old) (K.faults sink.old) (L.faults link.old) (C.faults clock.old)) (fault_counts (S.faults source.new) (K.faults sink.new) (L.faults link.new) (C.faults clock.new)) }
+
+    ensures source_kept { (row meant).uses.source ≡ false → source.new ≡ source.old }
+    ensures sink_kept { (row meant).uses.sink ≡ false → sink.new ≡ sink.old }
+    ensures link_kept { (row meant).uses.link ≡ false → link.new ≡ link.old }
+    ensures clock_kept { (row meant).uses.clock ≡ false → clock.new ≡ clock.old }
+{
+    match meant {
+        Meant::Router {
+            listen,
+            servers,
+            n,
+            workers,
+            tick_ms,
+            turns,
+        } => {
+            if let Err(status) = bind_first(Some(listen), link) {
+                return status;
+            }
+            let pace = Pace { tick_ms, turns };
+            serve_router(alloc, listen, servers, n, workers, sink, link, clock, pace)
+        }
+        Meant::Server {
+            listen,
+            router,
+            tick_ms,
+            turns,
+        } => {
+            if let Err(status) = bind_first(Some(listen), link) {
+                return status;
+            }
+            let pace = Pace { tick_ms, turns };
+            serve_plain(alloc, listen, router, Kv::new(alloc), link, clock, pace)
+        }
+        plain => run_plain_meant(alloc, plain, source, sink, link, clock),
+    }
+}
