@@ -50,7 +50,7 @@ datagrams_are_short s (Tell to message) sent =
     let header = one_part_header Ordering replicated 0 None in
     let long = length-append (spelling header) (message_bytes message) in
     let size = length-spelling header in
-    let few = sent.1 in
+    let few = sent.2 in
     All-cons IsShort (message_datagram (own_address s) to message) [] (omega (arith, long, size, few)) (All-nil IsShort)
 datagrams_are_short s (Recover to rid message) sent = parts-short (recover_spec (own_address s) to rid) (message_bytes message)
 datagrams_are_short s (Reply reply) sent = parts-short (reply_spec (own_address s) reply.rid reply.policy) reply.payload
@@ -58,4 +58,4 @@ datagrams_are_short s (Reply reply) sent = parts-short (reply_spec (own_address 
 -- a message about a body may be sent in parts
 pub recover-sendable : (from to : Addr) (rid : Rid) (message : Msg) → IsSent (Recover to rid message) → IsSendable (recover_spec from to rid) (message_bytes message)
 recover-sendable from to rid message sent =
-    record { limit = sent.1; first = record { low = omega arith; high = omega arith }; later = λ several. record { low = omega arith; high = omega arith } }
+    record { limit = sent.2; first = record { low = omega arith; high = omega arith }; later = λ several. record { low = omega arith; high = omega arith } }

@@ -1,5 +1,5 @@
 -- The first half of a turn leaves a sound member, and gives one thread's replies.
-use Rattle.std.proofs.Common.{◌≡◌, ℕ, ◌+◌, ◌-◌, ◌==◌, Bool, true, false, List, [], ◌∷◌, ◌++◌, length, map, take, drop, refl, sym, ap, subst, ◌∙◌, arith, length-drop, length-take, take-append-drop, ◌≤◌}
+use Rattle.std.proofs.Common.{◌≡◌, ℕ, ◌+◌, ◌-◌, ◌==◌, Bool, true, false, List, [], ◌∷◌, ◌++◌, length, map, take, refl, sym, ap, subst, ◌∙◌, arith, ◌≤◌}
 use Rattle.std.specs.Prelude.{if◌then◌else◌, fold, All}
 use Rattle.std.specs.FinMap as finite
 use Rattle.std.proofs.lemmas.List.Elements.{All-cons, All-drop, All-head, All-push, All-tail}
@@ -17,17 +17,17 @@ use Rattle.hc_member.specs.declared.role.Role.{Role}
 use Rattle.hc_member.specs.declared.role.Role.TheVariants.{Follower, Candidate, Leader}
 use Rattle.hc_member.specs.Setup.{IsSetup}
 use Rattle.hc_service.specs.declared.answer.Answer.{Answer}
-use Rattle.hc_member.specs.Finish.{applied, batch_of, batched, due, executed_batch, finished, reply_to, reported}
+use Rattle.hc_member.specs.Finish.{applied, batched, due, executed_batch, finished, reply_to, reported}
 use Rattle.hc_service.specs.Laws.{AreAnswers}
 use Rattle.hc_member.specs.Laws.{RepliesAreOneThread}
 use Rattle.hc_member.specs.Member.{Member, durable_of}
 use Rattle.hc_service.specs.Entries.{IsReplayed, operations}
 use Rattle.hc_member.specs.Reports.{with_report}
-use Rattle.hc_member.specs.Sending.{Sending, Reply, IsSent}
+use Rattle.hc_member.specs.Sending.{Reply, IsSent}
 use Rattle.hc_member.specs.Sound.{IsRightReply, IsSound}
 use Rattle.hc_member.proofs.Answers.{bodies-short, right-is_reply}
 use Rattle.hc_member.proofs.Batches.{answers-right, batch-answers, batch-replayed}
-use Rattle.hc_member.proofs.Fronts.{kept-front}
+use Rattle.hc_member.proofs.Prefixes.{kept-front}
 use Rattle.hc_member.proofs.Leads.{leads-report}
 use Rattle.hc_member.proofs.ReportRows.{leading, sound-lead}
 use Rattle.hc_member.proofs.Settled.{sound-batched}

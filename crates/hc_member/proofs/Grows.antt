@@ -43,6 +43,6 @@ pub stands-push : (rid : Rid) (log : List Stored) (s : Stored) → stands_in rid
 unfolding stands_in
 stands-push rid log s apart other = stands_in_both rid log (s ∷ []) ∙ rw (apart, other) refl
 
--- the front of the log stays
+-- the log is a prefix of the longer one
 pub front-push : (log : List Stored) (s : Stored) → take (length log) log ≡ take (length log) (log ++ s ∷ [])
 front-push log s = sym (take-append-le (length log) log (s ∷ []) (omega arith))

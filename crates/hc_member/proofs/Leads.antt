@@ -81,7 +81,7 @@ module _ (s : Setup) (is : IsSetup s) (term last : ℕ) (lead : Lead) (leads : I
         queues = All-set (IsQueue last) lead.queues member (with_reported row applied) (reported-queue row applied there) leads.queues;
       }
 
-  -- the next entry for any number is at most one behind the log
+  -- the next entry for any number is at most one after the log's last
   pub next-most : (member : ℕ) → next_to lead member ≤ last + 1
   next-most member =
       elim (cases_lt member (length lead.next)) [

@@ -2,7 +2,7 @@ pub mod Examples
 pub mod Situations
 pub mod Recoveries
 pub mod Received
-pub mod Fronts
+pub mod Prefixes
 pub mod Sound
 pub mod Begun
 pub mod Goes

@@ -1,5 +1,5 @@
 -- The messages of a sound member are valid and short.
-use Rattle.std.proofs.Common.{◌≡◌, ℕ, ◌+◌, ◌-◌, ◌<◌, ◌≤◌, ◌==◌, zero, suc, Bool, false, List, [], ◌∷◌, length, get_or, map, take, drop, sym, ap, subst, ◌∙◌, arith, length-drop}
+use Rattle.std.proofs.Common.{refl, ◌≡◌, ℕ, ◌+◌, ◌-◌, ◌<◌, ◌≤◌, ◌==◌, zero, suc, Bool, false, List, [], ◌∷◌, length, get_or, map, take, drop, sym, ap, subst, ◌∙◌, arith, length-drop}
 use Rattle.std.specs.Prelude.{All}
 use Rattle.std.specs.List.Sorted.{IsNonDecreasingBy}
 use Rattle.std.proofs.lemmas.List.{get_or-drop, get_or-map, get_or-take, get_or_default, length-map, length-take}
@@ -45,32 +45,32 @@ pub sent-vote_request : (to : Addr) (term member last_index last_term : ℕ) →
     → IsSent (Tell to (VoteReq term member last_index last_term))
 sent-vote_request to term member last_index last_term t m i l =
     let short = spellings_are_short (VoteReq term member last_index last_term) (t, m, i, l) in
-    ((t, m, i, l), omega (arith, short))
+    ((t, m, i, l), refl, omega (arith, short))
 
 pub sent-vote : (to : Addr) (term member : ℕ) (granted : Bool) → IsTerm term → IsMember member → IsSent (Tell to (Vote term member granted))
 sent-vote to term member granted t m =
     let short = spellings_are_short (Vote term member granted) (t, m) in
-    ((t, m), omega (arith, short))
+    ((t, m), refl, omega (arith, short))
 
 pub sent-ack : (to : Addr) (term member index applied : ℕ) → IsTerm term → IsMember member → IsIndex index → IsIndex applied → IsSent (Tell to (Ack term member index applied))
 sent-ack to term member index applied t m i a =
     let short = spellings_are_short (Ack term member index applied) (t, m, i, a) in
-    ((t, m, i, a), omega (arith, short))
+    ((t, m, i, a), refl, omega (arith, short))
 
 pub sent-nack : (to : Addr) (term member hint : ℕ) → IsTerm term → IsMember member → IsIndex hint → IsSent (Tell to (Nack term member hint))
 sent-nack to term member hint t m i =
     let short = spellings_are_short (Nack term member hint) (t, m, i) in
-    ((t, m, i), omega (arith, short))
+    ((t, m, i), refl, omega (arith, short))
 
 pub sent-ask : (to : Addr) (rid : Rid) (member : ℕ) → IsMember member → IsSent (Recover to rid (RecoverAsk member))
 sent-ask to rid member m =
     let short = spellings_are_short (RecoverAsk member) m in
-    (m, omega (arith, short))
+    (m, refl, omega (arith, short))
 
 pub sent-body : (to : Addr) (rid : Rid) (kind : Kind) (body : List ℕ) → 1 ≤ kind_number kind → length body ≤ most_body → IsSent (Recover to rid (RecoverBody kind body))
 sent-body to rid kind body k b =
     let short = spellings_are_short (RecoverBody kind body) (k, b) in
-    ((k, b), omega (arith, short))
+    ((k, b), refl, omega (arith, short))
 
 -- an entry of an Order is one of the log
 entry-there : (log : List Stored) (index most k : ℕ) (d : Entry) → k < length (take most (metas_of (drop index log)))
@@ -163,4 +163,4 @@ sent-order s m to index most via is valid term start_low start_high commit few w
     } in
     let ordered = ordered-slice (durable_of m) index most valid few within in
     let short = spellings_are_short (order_after s m index via entries) (head, ordered) in
-    ((head, ordered), omega (arith, short))
+    ((head, ordered), refl, omega (arith, short))

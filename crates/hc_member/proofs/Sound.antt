@@ -12,7 +12,7 @@ use Rattle.hc_member.specs.declared.setup.Setup.{Setup}
 use Rattle.hc_member.specs.declared.role.Role.{Role}
 use Rattle.hc_member.specs.Member.{Lead, Member}
 use Rattle.hc_member.specs.Sound.{IsInRole, IsSound}
-use Rattle.hc_member.proofs.Fronts.{kept-front, replayed-front}
+use Rattle.hc_member.proofs.Prefixes.{kept-front, replayed-front}
 
 -- its part in the group
 pub sound-part : (s : Setup) (m : Member) (term : ℕ) (vote : Option ℕ) (role : Role) (votes : List Bool) (matched silent commit : ℕ) (lead : Lead) → IsSound s m
@@ -53,7 +53,7 @@ sound-waits s m pool unfinished pending silent sound is_pool apart short batch =
       role = sound.role;
     }
 
--- its log, of which the front stays that was applied, and a pool beside it
+-- its log, of which the prefix stays that was applied, and a pool beside it
 pub sound-log : (s : Setup) (m : Member) (keep : ℕ) (log : List Stored) (pool : List Request) (role : Role) (matched commit : ℕ) (lead : Lead) → IsSound s m
     → m.applied ≤ keep → take keep m.log ≡ take keep log → IsValid (record { term = m.term; vote = m.vote; log = log }) → IsPool pool
     → All (λ r. stands_in r.rid log ≡ false) pool → m.commit ≤ commit → commit ≤ length log → matched ≤ length log

@@ -15,7 +15,7 @@ use Rattle.hc_member.specs.Member.{Member, durable_of}
 use Rattle.hc_member.specs.Sending.{IsSent}
 use Rattle.hc_member.specs.Sound.{IsSound}
 use Rattle.hc_member.specs.Turn.{Reacted, reacted, reacted_to, row, settled, turned}
-use Rattle.hc_member.proofs.Fronts.{same-front}
+use Rattle.hc_member.proofs.Prefixes.{same-front}
 use Rattle.hc_member.proofs.Finished.{finishes}
 use Rattle.hc_member.proofs.Received.{received_good}
 use Rattle.hc_member.proofs.Rows.{goes-row}

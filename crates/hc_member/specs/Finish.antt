@@ -1,5 +1,5 @@
 -- The first half of a turn: what is committed is applied, and the replies go out.
-use Rattle.std.specs.Prelude.{ℕ, ◌+◌, ◌-◌, ◌==◌, min, if◌then◌else◌, List, take, drop, map, fold}
+use Rattle.std.specs.Prelude.{ℕ, ◌+◌, ◌-◌, ◌==◌, min, if◌then◌else◌, List, map, fold}
 use Rattle.r2_frag.specs.declared.kept.KeptReply.{KeptReply}
 use Rattle.r2_frag.specs.Kept.{kept_with}
 use Rattle.hc_log.specs.declared.stored.Stored.{Stored}

@@ -1,5 +1,5 @@
 -- What holds of every turn of a sound member.
-use Rattle.std.specs.Prelude.{◌≡◌, ◌≢◌, ◌+◌, ◌≤◌, ◌==◌, ℕ, zero, suc, if◌then◌else◌, List, [], ◌∷◌, ◌++◌, map, fold, length, slice_get, All, Option, Some, None, take, ◌<◌, slice_index_or}
+use Rattle.std.specs.Prelude.{◌≡◌, ◌≢◌, ◌+◌, ◌≤◌, ℕ, List, map, fold, length, All, Option, Some, None, take, ◌<◌, slice_index_or}
 use Rattle.r2_base.specs.Numbers.{AreBytes}
 use Rattle.r2_base.specs.declared.rid.Rid.{Rid}
 use Rattle.r2_base.specs.declared.event.Event.{Event}
@@ -7,8 +7,6 @@ use Rattle.r2_base.specs.declared.event.Event.TheVariants as event
 use Rattle.r2_header.specs.Layout.{short}
 use Rattle.r2_frag.specs.declared.kept.KeptReply.{KeptReply}
 use Rattle.r2_frag.specs.Kept.{kept_with, newest}
-use Rattle.hc_store.specs.Replies.{reply_at}
-use Rattle.hc_log.specs.declared.stored.Stored.{Stored}
 use Rattle.hc_log.specs.declared.record.Record.{Record}
 use Rattle.hc_log.specs.Durable.{State, IsNext, IsValid, after}
 use Rattle.hc_service.specs.declared.answer.Answer.{Answer}
@@ -18,9 +16,7 @@ use Rattle.hc_replier.specs.Queues.{unreported}
 use Rattle.hc_member.specs.declared.setup.Setup.{Setup}
 use Rattle.hc_member.specs.declared.role.Role.TheVariants.{Leader}
 use Rattle.hc_member.specs.Finish.{due, finished, reply_to}
-use Rattle.hc_member.specs.Heard.{policy_of}
 use Rattle.hc_member.specs.Member.{Member, anew, durable_of, restarted}
-use Rattle.hc_service.specs.Entries.{operations}
 use Rattle.hc_member.specs.Sending.{Sending, Reply, IsSent, datagrams_of}
 use Rattle.hc_member.specs.Setup.{IsSetup}
 use Rattle.hc_member.specs.Sound.{IsRightReply, IsSound}
@@ -77,7 +73,7 @@ RepeatedRepliesAreRight =
     (s : Setup) (m : Member) (rid : Rid) (reply : KeptReply) → IsSound s m → newest rid m.kept ≡ Some reply
     → (reply.rid ≡ rid) × IsRightReply s.me m.applied m.log reply
 
--- the greatest number of bytes of a datagram: an Order behind its header
+-- the greatest number of bytes of a datagram: an Order after its header
 abbrev pub most_datagram_bytes : ℕ
 most_datagram_bytes = short.size + most_order_bytes
 

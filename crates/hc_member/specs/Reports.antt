@@ -45,7 +45,7 @@ report_in s m (Told from (Ack term member index applied)) =
     if is_from_member s from member then report_of m term member applied else None
 report_in s m _ = None
 
--- the leader goes on with a member behind where their logs may agree: not before what that is known to have
+-- the leader goes on with a member after the index up to which their logs may agree: after what that is known to have at least
 abbrev pub turned_back : Member → ℕ → ℕ → Member
 turned_back m member hint =
     record m {

@@ -1,5 +1,5 @@
 -- What a member sends, and the datagrams of each.
-use Rattle.std.specs.Prelude.{◌≤◌, true, List, [], ◌∷◌, ◌++◌, length, None}
+use Rattle.std.specs.Prelude.{◌≤◌, true, List, [], ◌∷◌, ◌++◌, length, None, ◌≡◌, Bool, false}
 use Rattle.std.specs.List.{flat_map}
 use Rattle.r2_base.specs.declared.addr.Addr.{Addr}
 use Rattle.r2_base.specs.declared.datagram.Datagram.{Datagram}
@@ -13,6 +13,7 @@ use Rattle.r2_frag.specs.declared.part_spec.PartSpec.{PartSpec}
 use Rattle.r2_frag.specs.Parts.{body_limit, parts_of}
 use Rattle.r2_frag.specs.Replies.{IsReply, reply_parts}
 use Rattle.hc_message.specs.declared.msg.Msg.{Msg}
+use Rattle.hc_message.specs.declared.msg.Msg.TheVariants.{RecoverAsk, RecoverBody}
 use Rattle.hc_message.specs.Message.{IsValid, message_bytes}
 use Rattle.hc_message.specs.Laws.{most_order_bytes}
 use Rattle.hc_member.specs.declared.setup.Setup.{Setup}
@@ -52,8 +53,17 @@ datagrams_of s (Reply reply) = reply_parts (own_address s) reply.rid reply.polic
 abbrev pub datagrams_of_all : Setup → List Sending → List Datagram
 datagrams_of_all s sends = flat_map (datagrams_of s) sends
 
--- what is sent is as it may be: a valid message, in one datagram or in parts that a message has room for, or a reply
+-- whether a message is about a body: it is asked for, or given
+abbrev pub is_recovery : Msg → Bool
+is_recovery (RecoverAsk member) = true
+is_recovery (RecoverBody kind body) = true
+is_recovery _ = false
+
+-- what is sent is as it may be: a valid message about a body in parts for which there is room, another valid one in one datagram, or
+-- a reply
 abbrev pub IsSent : Sending → Type 0
-IsSent (Tell to message) = IsValid message × (length (message_bytes message) ≤ most_order_bytes)
-IsSent (Recover to rid message) = IsValid message × (length (message_bytes message) ≤ body_limit class.Recover)
+IsSent (Tell to message) =
+    IsValid message × (is_recovery message ≡ false) × (length (message_bytes message) ≤ most_order_bytes)
+IsSent (Recover to rid message) =
+    IsValid message × (is_recovery message ≡ true) × (length (message_bytes message) ≤ body_limit class.Recover)
 IsSent (Reply reply) = IsReply reply

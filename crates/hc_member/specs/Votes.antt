@@ -68,7 +68,7 @@ vote_request s m = VoteReq m.term s.me (length m.log) (last_term m.log)
 abbrev pub vote_requests : Setup → Member → List Sending
 vote_requests s m = map (λ member. Tell (address_of s member) (vote_request s m)) (others s)
 
--- whether a log that ends with this index and term isn't behind this one (Raft, section 5.4.1)
+-- whether a log that ends with this index and term is at least as up to date as this one (Raft, section 5.4.1)
 abbrev pub reaches : List Stored → ℕ → ℕ → Bool
 reaches log last_index last_term_there =
     nat_lt (last_term log) last_term_there || (last_term log == last_term_there && nat_le (length log) last_index)

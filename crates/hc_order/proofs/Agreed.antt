@@ -1,6 +1,6 @@
 -- The Order's entries that stand in the log, and those that come after them.
 use Rattle.std.proofs.Common.{◌≡◌, ◌<◌, ◌≤◌, ℕ, zero, suc, ◌+◌, ◌-◌, Bool, true, false, List, [], ◌∷◌, length, get_or, take, drop, refl, sym, ap, subst, ◌∙◌, inl, inr, arith, length-drop}
-use Rattle.std.specs.Prelude.{◌==◌, if◌then◌else◌, nat_lt}
+use Rattle.std.specs.Prelude.{◌==◌, if◌then◌else◌}
 use Rattle.std.specs.List.{common_prefix_len}
 use Rattle.std.proofs.lemmas.Bool.{cases_Bool, eqb-true}
 use Rattle.std.proofs.lemmas.List.{get_or-take, get_or-drop, length-take-le}
@@ -13,8 +13,8 @@ use Rattle.hc_log.specs.Log.{blank_of, last_term, term_at, IsLog}
 use Rattle.hc_log.proofs.Logs.{IsLog-limits}
 use Rattle.hc_message.specs.Entry.{IsEntry}
 use Rattle.hc_message.specs.Message.{AreOrdered}
-use Rattle.hc_order.specs.Taking.{AreNext, after_end, agreeing, agrees, cut_at}
-use Rattle.hc_order.proofs.Growing.{are-next-none}
+use Rattle.hc_order.specs.Taking.{AreNext, after_end, agreeing, agrees}
+use Rattle.hc_order.proofs.Grown.{are-next-none}
 
 -- those that agree are in both
 pub agreed-inside : (log : List Stored) (at : ℕ) (entries : List Entry) → at ≤ length log → (agreeing log at entries ≤ length entries) × (at + agreeing log at entries ≤ length log)
@@ -89,15 +89,6 @@ agreed-next log at entries prev term behind ordered same =
       room = omega (arith, long, length-drop n entries, both.0, ordered.room);
     }
 
--- the log isn't cut before what it has
-pub cut-inside : (log : List Stored) (fixed reach : ℕ) (rest : List Entry) → reach ≤ length log → cut_at log fixed reach rest ≤ length log
-cut-inside log fixed reach [] h = omega arith
-cut-inside log fixed reach (e ∷ later) h = by-test (nat_lt reach fixed)
-  where
-    by-test : (b : Bool) → (if b then length log else reach) ≤ length log
-    by-test true = omega arith
-    by-test false = h
-
 -- what comes after the end may follow, as far as the fields tell
 pub after-end-next : (log : List Stored) (keep reach : ℕ) (rest : List Entry) → IsLog log → AreNext (take reach log) rest → keep ≤ length log → AreNext (take keep log) (after_end keep reach rest)
 after-end-next log keep reach rest is_log next inside = by-test (keep == reach) refl
@@ -105,10 +96,3 @@ after-end-next log keep reach rest is_log next inside = by-test (keep == reach) 
     by-test : (b : Bool) → (keep == reach) ≡ b → AreNext (take keep log) (if b then rest else [])
     by-test true same = subst (λ (n : ℕ). AreNext (take n log) rest) (sym (eqb-true keep reach same)) next
     by-test false other = are-next-none (take keep log) (let limits = IsLog-limits log is_log in omega (arith, length-take-le keep log inside, limits.entries))
-
-pub after-end-few : (keep reach : ℕ) (rest : List Entry) → length (after_end keep reach rest) ≤ length rest
-after-end-few keep reach rest = by-test (keep == reach)
-  where
-    by-test : (b : Bool) → length (if b then rest else []) ≤ length rest
-    by-test true = omega arith
-    by-test false = omega arith

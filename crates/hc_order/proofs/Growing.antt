@@ -1,5 +1,5 @@
 -- Entries that are appended, one after another.
-use Rattle.std.proofs.Common.{◌≡◌, ◌<◌, ◌≤◌, ℕ, suc, ◌+◌, Bool, true, false, List, [], ◌∷◌, ◌++◌, length, get_or, take, drop, refl, sym, ap, subst, ◌∙◌, arith, add-one, append-nil, append_assoc, Option, Some, None, is_some}
+use Rattle.std.proofs.Common.{◌≡◌, ◌<◌, ◌≤◌, ℕ, suc, ◌+◌, Bool, true, false, List, [], ◌∷◌, ◌++◌, length, get_or, drop, refl, sym, ap, subst, ◌∙◌, arith, Option, Some, None, is_some}
 use Rattle.std.specs.Prelude.{◌&&◌, not, if◌then◌else◌}
 use Rattle.std.proofs.lemmas.Bool.{and_parts, false≢true}
 use Rattle.std.proofs.lemmas.List.{length_push, drop_more, drop_all}
@@ -8,21 +8,17 @@ use Rattle.r2_base.specs.declared.entry.Kind.{Kind}
 use Rattle.r2_base.specs.declared.entry.Kind.TheVariants.{Blank, Write, Read}
 use Rattle.r2_base.specs.Entry.{is_request}
 use Rattle.r2_base.specs.Limits.{greatest_number, most_body}
-use Rattle.r2_base.specs.Names.{same_rid}
 use Rattle.hc_log.specs.declared.stored.Stored.{Stored}
 use Rattle.hc_log.specs.Ranges.{FitsKind, IsStored}
-use Rattle.hc_log.specs.Log.{has_room, last_term, metas_of, requests_of, body_bytes_of, stands_in, IsWithinLimits, IsLog, MayFollow}
+use Rattle.hc_log.specs.Log.{has_room, last_term, requests_of, body_bytes_of, stands_in, IsWithinLimits, IsLog, MayFollow}
 use Rattle.hc_log.proofs.Counting.{last_term_more, requests_of_more, body_bytes_of_more}
-use Rattle.hc_log.proofs.Logs.{IsLog-limits, IsLog-push}
+use Rattle.hc_log.proofs.Logs.{IsLog-limits}
 use Rattle.hc_log.proofs.Rooms.{requests_with_room_follow}
 use Rattle.hc_message.specs.Entry.{IsEntry}
 use Rattle.hc_pool.specs.declared.request.Request.{Request}
-use Rattle.hc_pool.specs.Pool.{request_of, without, IsPool, MayWait}
+use Rattle.hc_pool.specs.Pool.{request_of, IsPool, MayWait}
 use Rattle.hc_pool.proofs.Requests.{found_fits}
-use Rattle.hc_order.specs.Apart.{ShareNoRequest}
-use Rattle.hc_order.specs.Laws.{AreBeside}
-use Rattle.hc_order.proofs.Apart.{IsPool-without, share-push, share-taken}
-use Rattle.hc_order.specs.Taking.{AreNext, Grown, appending, grown_by, log_with, may_append, next_stored, not_grown, one_more, pool_left, pool_with, same_kind, with_body}
+use Rattle.hc_order.specs.Taking.{AreNext, Grown, appending, grown_by, log_with, may_append, next_stored, not_grown, one_more, pool_with, same_kind, with_body}
 
 -- a blank entry has room where the log isn't the longest
 blank-limits : (log : List Stored) (s : Stored) → IsLog log → length log < greatest_number → is_request s.entry.kind ≡ false → s.body ≡ [] → IsWithinLimits (log ++ s ∷ [])
@@ -85,8 +81,8 @@ with_body-may log e r some = by-test (may_append log e r) some
 
 -- what is to be appended, by its cases
 pub record Appends (log : List Stored) (e : Entry) (s : Stored) : Type 0 where
-  same : s.entry ≡ e
-  follows : MayFollow log s
+  pub same : s.entry ≡ e
+  pub follows : MayFollow log s
 
 with_body-appends : (log : List Stored) (e : Entry) (s : Stored) (o : Option Request) → IsEntry e → last_term log ≤ e.term → is_request e.kind ≡ true
     → ((r : Request) → o ≡ Some r → MayWait r) → with_body log e o ≡ Some s → Appends log e s
@@ -118,7 +114,7 @@ with_body-same log e s (Some r) is = by-test (may_append log e r) is
     by-test true is = (let same : record { entry = e; body = r.body } ≡ s = cc in ap (λ (x : Stored). x.entry) (sym same))
     by-test false is = cc
 
-next-same : (log : List Stored) (pool : List Request) (e : Entry) (s : Stored) (k : Kind) → next_stored log pool e k ≡ Some s → s.entry ≡ e
+pub next-same : (log : List Stored) (pool : List Request) (e : Entry) (s : Stored) (k : Kind) → next_stored log pool e k ≡ Some s → s.entry ≡ e
 next-same log pool e s Blank is = (let same : record { entry = e; body = [] } ≡ s = cc in ap (λ (x : Stored). x.entry) (sym same))
 next-same log pool e s Write is = with_body-same log e s (request_of e.rid pool) is
 next-same log pool e s Read is = with_body-same log e s (request_of e.rid pool) is
@@ -203,104 +199,3 @@ pub are-next-step : (entries : List Entry) (i : ℕ) (e : Entry) (log log' : Lis
 are-next-step entries i e log log' pool h is next some l =
     let all = subst (λ (xs : List Entry). AreNext log xs) (drop-here entries i e h is) next in
     subst (λ (xs : List Stored). AreNext xs (drop (i + 1) entries)) (sym l) (are-next-with log pool e (drop (i + 1) entries) (next_stored log pool e e.kind) refl some all)
-
--- what the next entry keeps to
-pub record IsNextEntry (log : List Stored) (e : Entry) : Type 0 where
-  pub entry : IsEntry e
-  pub latest : last_term log ≤ e.term
-  pub room : length log < greatest_number
-
-pub next-entry : (entries : List Entry) (i : ℕ) (e : Entry) (log : List Stored) → i < length entries → e ≡ get_or entries i e → AreNext log (drop i entries) → IsNextEntry log e
-next-entry entries i e log h is next =
-    let all = subst (λ (xs : List Entry). AreNext log xs) (drop-here entries i e h is) next in
-    record { entry = all.each 0 e (omega arith); latest = all.latest 0 e (omega arith); room = (let n = all.room in omega (arith, n)) }
-
--- appending, by the first entry: nothing is appended, or that one is and then others
-by-first : (P : Grown → Type 0) (log : List Stored) (pool : List Request) (e : Entry) (later : List Entry) (o : Option Stored) → next_stored log pool e e.kind ≡ o
-    → P (not_grown log pool)
-    → ((s : Stored) → next_stored log pool e e.kind ≡ Some s → P (one_more (appending (log ++ s ∷ []) (pool_left pool e e.kind) later)))
-    → P (appending log pool (e ∷ later))
-by-first P log pool e later None is none some = subst P (sym (grown-none log pool e later None is refl)) none
-by-first P log pool e later (Some s) is none some = subst P (sym (grown-some log pool e later (Some s) is refl)) (some s is)
-
--- no more are appended than there are
-pub appended-few : (entries : List Entry) (log : List Stored) (pool : List Request) → (appending log pool entries).count ≤ length entries
-unfolding appending
-appended-few [] log pool = omega arith
-appended-few (e ∷ later) log pool =
-    by-first (λ g. g.count ≤ suc (length later)) log pool e later (next_stored log pool e e.kind) refl (omega arith)
-    (λ s is. let rest = appended-few later (log ++ s ∷ []) (pool_left pool e e.kind) in omega (arith, rest))
-
--- a log and a pool share no request once an entry was appended
-appended-apart : (log : List Stored) (pool : List Request) (e : Entry) (s : Stored) (k : Kind) → e.kind ≡ k → s.entry ≡ e → ShareNoRequest log pool
-    → ShareNoRequest (log ++ s ∷ []) (pool_left pool e k)
-appended-apart log pool e s Blank kind same apart =
-    let blank : is_request s.entry.kind ≡ false = ap (λ (x : Entry). is_request x.kind) same ∙ ap is_request kind in
-    share-push log pool s apart (λ k d h. ap (λ b. b && same_rid (get_or pool k d).rid s.entry.rid) blank)
-appended-apart log pool e s Write kind same apart =
-    subst (λ (x : Entry). ShareNoRequest (log ++ s ∷ []) (without x.rid pool)) same (share-taken log pool s apart)
-appended-apart log pool e s Read kind same apart =
-    subst (λ (x : Entry). ShareNoRequest (log ++ s ∷ []) (without x.rid pool)) same (share-taken log pool s apart)
-
-pub appending-apart : (entries : List Entry) (log : List Stored) (pool : List Request) → ShareNoRequest log pool
-    → ShareNoRequest (appending log pool entries).log (appending log pool entries).pool
-unfolding appending
-appending-apart [] log pool apart = apart
-appending-apart (e ∷ later) log pool apart =
-    by-first (λ g. ShareNoRequest g.log g.pool) log pool e later (next_stored log pool e e.kind) refl apart
-    (λ s is. appending-apart later (log ++ s ∷ []) (pool_left pool e e.kind) (appended-apart log pool e s e.kind refl (next-same log pool e s e.kind is) apart))
-
--- nothing comes after any log
-pub are-next-none : (log : List Stored) → length log ≤ greatest_number → AreNext log []
-are-next-none log fits =
-    record {
-      each = λ k d h. absurd (omega arith);
-      latest = λ k d h. absurd (omega arith);
-      never_fall = λ i j d le h. absurd (omega arith);
-      room = omega arith;
-    }
-
--- what appending leaves: the entries that were appended, from the first on
-pub record IsGrown (log : List Stored) (entries : List Entry) (g : Grown) : Type 0 where
-  pub beside : AreBeside g.log g.pool
-  pub few : g.count ≤ length entries
-  pub added : List Stored
-  pub log_is : g.log ≡ log ++ added
-  pub metas : metas_of added ≡ take g.count entries
-
-left-pool : (pool : List Request) (e : Entry) (k : Kind) → IsPool pool → IsPool (pool_left pool e k)
-left-pool pool e Blank is_pool = is_pool
-left-pool pool e Write is_pool = IsPool-without e.rid pool is_pool
-left-pool pool e Read is_pool = IsPool-without e.rid pool is_pool
-
-beside-more : (log : List Stored) (pool : List Request) (e : Entry) (s : Stored) → AreBeside log pool → Appends log e s → AreBeside (log ++ s ∷ []) (pool_left pool e e.kind)
-beside-more log pool e s beside a =
-    record {
-      is_log = IsLog-push log s beside.is_log a.follows;
-      is_pool = left-pool pool e e.kind beside.is_pool;
-      apart = appended-apart log pool e s e.kind refl a.same beside.apart;
-    }
-
-is-grown-more : (log : List Stored) (e : Entry) (later : List Entry) (s : Stored) (g : Grown) → s.entry ≡ e → IsGrown (log ++ s ∷ []) later g → IsGrown log (e ∷ later) (one_more g)
-is-grown-more log e later s g same is =
-    record {
-      beside = is.beside;
-      few = omega (arith, is.few);
-      added = s ∷ is.added;
-      log_is = is.log_is ∙ append_assoc log (s ∷ []) is.added;
-      metas =
-          let first : take (g.count + 1) (e ∷ later) ≡ e ∷ take g.count later = rw add-one refl in
-          ap (λ (x : Entry). x ∷ metas_of is.added) same ∙ ap (λ (xs : List Entry). e ∷ xs) is.metas ∙ sym first;
-    }
-
-pub is-grown : (entries : List Entry) (log : List Stored) (pool : List Request) → AreBeside log pool → AreNext log entries → IsGrown log entries (appending log pool entries)
-unfolding appending
-is-grown [] log pool beside next =
-    record { beside = beside; few = omega arith; added = []; log_is = sym (append-nil log); metas = refl }
-is-grown (e ∷ later) log pool beside next =
-    by-first (IsGrown log (e ∷ later)) log pool e later (next_stored log pool e e.kind) refl
-    (record { beside = beside; few = omega arith; added = []; log_is = sym (append-nil log); metas = refl })
-    (λ s is.
-    let a = next-appends log pool e s e.kind beside.is_log beside.is_pool (next.each 0 e (omega arith)) (next.latest 0 e (omega arith)) (let room = next.room in omega (arith, room)) refl is in
-    is-grown-more log e later s (appending (log ++ s ∷ []) (pool_left pool e e.kind) later) a.same
-    (is-grown later (log ++ s ∷ []) (pool_left pool e e.kind) (beside-more log pool e s beside a) (are-next-later log e later s next a.same)))

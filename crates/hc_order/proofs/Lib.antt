@@ -1,5 +1,6 @@
 pub mod Greatest
 pub mod Growing
+pub mod Grown
 pub mod Apart
 pub mod Orders
 pub mod Agreed

@@ -21,7 +21,7 @@ use Rattle.hc_order.specs.Taking.{AreNext, Grown, MayReturn, MayTakeAfter, after
 use Rattle.hc_order.specs.Laws.{AreBeside, Differ, IsTaken, TakingsAreRight}
 use Rattle.hc_order.proofs.Agreed.{agreed-inside, agreed-next}
 use Rattle.hc_order.proofs.Apart.{may-return, may-return-later, nothing-released, released-append, released-none, released-one, share-released}
-use Rattle.hc_order.proofs.Growing.{IsGrown, is-grown}
+use Rattle.hc_order.proofs.Grown.{IsGrown, is-grown}
 
 -- a request's body is short
 short-body : (k : Kind) (body : List ℕ) → is_request k ≡ true → FitsKind k body → length body ≤ most_body

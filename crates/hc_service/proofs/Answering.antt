@@ -34,6 +34,16 @@ reply-here log index before s contents place there is =
     ∙ ap (λ (c : Contents). answer c (operation_of s)) (sym is)
     ∙ ap (λ (n : ℕ). entry_reply contents n s.entry.kind s.body) (sym place)
 
+-- one entry is executed, and what one thread would keep after it is kept
+pub one-follows : (me : ℕ) (log : List Stored) (index : ℕ) (service : State) → 1 ≤ index → index ≤ length log → service.contents ≡ contents_after (take (index - 1) log)
+    → (run_one me index (stored_at log index) service).service.contents ≡ contents_after (take (index + 1 - 1) log)
+one-follows me log index service some inside is =
+    let s = stored_at log index in
+    let there : slice_get log (index - 1) ≡ Some s = slice_get-get_or log (index - 1) (blank_of 0) (omega arith) in
+    let place : index - 1 + 1 ≡ index + 1 - 1 = omega arith in
+    (one-executes me index s service).contents ∙ ap (λ (c : Contents). after_entry c s.entry.kind s.body) is ∙ sym (contents_after-next log (index - 1) s there)
+    ∙ ap (λ (n : ℕ). contents_after (take n log)) place
+
 -- an entry gets no answer of this member
 record Silent (me : ℕ) (s : Stored) (answers : List Answer) : Type 0 where
   none : answers ≡ []
@@ -159,13 +169,8 @@ answers-from : (left : ℕ) (me : ℕ) (log : List Stored) (index to : ℕ) (ser
     → AreAnswers me log index to (run_all me index (entries_between log index to) service).answers
 answers-from zero me log index to service sum some within is = answers-none me log index to service (omega arith)
 answers-from (suc left) me log index to service sum some within is =
-    let s = stored_at log index in
-    let there : slice_get log (index - 1) ≡ Some s = slice_get-get_or log (index - 1) (blank_of 0) (omega arith) in
-    let after = (run_one me index s service).service in
-    let place : index - 1 + 1 ≡ index + 1 - 1 = omega arith in
-    let next : after.contents ≡ contents_after (take (index + 1 - 1) log) =
-    (one-executes me index s service).contents ∙ ap (λ (c : Contents). after_entry c s.entry.kind s.body) is ∙ sym (contents_after-next log (index - 1) s there)
-    ∙ ap (λ (n : ℕ). contents_after (take n log)) place in
+    let after = (run_one me index (stored_at log index) service).service in
+    let next = one-follows me log index service some (omega arith) is in
     answers-more me log index to service some (omega arith) within is (answers-from left me log (index + 1) to after (omega arith) (omega arith) within next)
 
 pub batches_answer : BatchesAnswer

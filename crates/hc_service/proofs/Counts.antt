@@ -49,6 +49,15 @@ pub own_reads_of-next : (me : ℕ) (log : List Stored) (i : ℕ) (stored : Store
 unfolding own_reads_of
 own_reads_of-next me log i stored there = count-next (λ s. is_read s.entry.kind && (s.entry.replier == me)) log i stored there
 
+-- with more entries
+pub writes_of-append : (front back : List Stored) → writes_of (front ++ back) ≡ writes_of front + writes_of back
+unfolding writes_of
+writes_of-append front back = count-append (λ s. is_write s.entry.kind) front back
+
+pub own_reads_of-append : (me : ℕ) (front back : List Stored) → own_reads_of me (front ++ back) ≡ own_reads_of me front + own_reads_of me back
+unfolding own_reads_of
+own_reads_of-append me front back = count-append (λ s. is_read s.entry.kind && (s.entry.replier == me)) front back
+
 -- by the first entry
 pub writes_of-cons : (s : Stored) (later : List Stored) → writes_of (s ∷ later) ≡ cond (is_write s.entry.kind) 1 0 + writes_of later
 unfolding writes_of

@@ -18,9 +18,17 @@ pub after_all-one : (contents : Contents) (operation : Operation) → after_all 
 unfolding after_all
 after_all-one contents operation = refl
 
+pub operations-append : (front back : List Stored) → operations (front ++ back) ≡ operations front ++ operations back
+unfolding operations
+operations-append front back = map-append operation_of front back
+
 pub operations-more : (log : List Stored) (stored : Stored) → operations (log ++ stored ∷ []) ≡ operations log ++ operation_of stored ∷ []
 unfolding operations
 operations-more log stored = map-append operation_of log (stored ∷ [])
+
+-- what is kept after more entries
+pub contents_after-append : (front back : List Stored) → contents_after (front ++ back) ≡ after_all (contents_after front) (operations back)
+contents_after-append front back = ap (after_all finite.empty) (operations-append front back) ∙ after_all-append finite.empty (operations front) (operations back)
 
 -- what is kept after one entry more
 pub contents_after-next : (log : List Stored) (i : ℕ) (stored : Stored) → slice_get log i ≡ Some stored

@@ -1,10 +1,11 @@
 -- Entries that are executed, one after another.
-use Rattle.std.proofs.Common.{◌≡◌, ℕ, ◌+◌, ◌-◌, ◌<◌, ◌≤◌, Bool, true, false, cond, suc, List, [], ◌∷◌, ◌++◌, length, take, drop, slice_get, Some, refl, sym, ap, ◌∙◌, arith, append-nil, append_assoc}
+use Rattle.std.proofs.Common.{◌≡◌, ℕ, ◌+◌, ◌-◌, ◌<◌, ◌≤◌, Bool, true, false, cond, suc, List, [], ◌∷◌, ◌++◌, length, take, drop, slice_get, Some, refl, sym, ap, subst, ◌∙◌, arith, append-nil, append_assoc, take-add}
 use Rattle.std.specs.Prelude.{◌==◌, ◌&&◌, if◌then◌else◌}
 use Rattle.std.proofs.lemmas.List.{drop_more}
 use Rattle.std.proofs.lemmas.Option.{slice_get-get_or}
 use Rattle.r2_base.specs.declared.entry.Kind.{Kind}
 use Rattle.r2_base.specs.declared.entry.Kind.TheVariants.{Blank, Write, Read}
+use Rattle.hc_store.specs.Service.{Contents}
 use Rattle.hc_store.specs.State.{State, after_admission}
 use Rattle.hc_store.specs.Replies.{after_all, after_entry}
 use Rattle.hc_store.proofs.Changes.{reads_change_nothing}
@@ -12,9 +13,10 @@ use Rattle.hc_log.specs.declared.stored.Stored.{Stored}
 use Rattle.hc_log.specs.Log.{blank_of, requests_of, stored_at}
 use Rattle.hc_service.specs.declared.answer.Answer.{Answer}
 use Rattle.hc_service.specs.Batch.{Batch, and_then, entries_between, run_all, run_by, run_one}
-use Rattle.hc_service.specs.Entries.{is_read, is_write, operations, own_reads_of, writes_of}
-use Rattle.hc_service.specs.Laws.{BatchesRun}
-use Rattle.hc_service.proofs.Counts.{own_reads_of-cons, read_asks, requests_of-next, write_asks, writes_of-cons}
+use Rattle.hc_service.specs.Entries.{IsReplayed, is_read, is_write, operations, own_reads_of, writes_of}
+use Rattle.hc_service.specs.Laws.{BatchesRun, HasRun}
+use Rattle.hc_service.proofs.Counts.{own_reads_of-append, own_reads_of-cons, read_asks, requests_of-next, write_asks, writes_of-append, writes_of-cons}
+use Rattle.hc_service.proofs.Entries.{contents_after-append}
 
 -- the entries from an index on are the one there, and those from the next index on
 pub between-more : (log : List Stored) (index to : ℕ) → 1 ≤ index → index ≤ to → to ≤ length log
@@ -71,6 +73,25 @@ batches_run me index (s ∷ later) service =
       reads = omega (arith, rest.reads, one.reads, own_reads_of-cons me s later);
     }
 
+-- a service that is one thread's stays so
+pub replayed-run : (me : ℕ) (front entries : List Stored) (before after : State) → HasRun me entries before after → IsReplayed me front before → IsReplayed me (front ++ entries) after
+replayed-run me front entries before after ran is =
+    record {
+      contents = ran.contents ∙ ap (λ (c : Contents). after_all c (operations entries)) is.contents ∙ sym (contents_after-append front entries);
+      writes = omega (arith, ran.writes, is.writes, writes_of-append front entries);
+      reads = omega (arith, ran.reads, is.reads, own_reads_of-append me front entries);
+    }
+
+-- and so does one after a batch of a log
+pub batch-replayed : (me from to : ℕ) (log : List Stored) (service : State) → from ≤ to + 1 → 1 ≤ from → IsReplayed me (take (from - 1) log) service
+    → IsReplayed me (take to log) (run_all me from (entries_between log from to) service).service
+batch-replayed me from to log service order some is =
+    let entries = entries_between log from to in
+    let after = (run_all me from entries service).service in
+    let size : from - 1 + (to + 1 - from) ≡ to = omega (arith, order, some) in
+    let both : take (from - 1) log ++ entries ≡ take to log = sym (take-add (from - 1) (to + 1 - from) log) ∙ ap (λ (n : ℕ). take n log) size in
+    subst (λ (l : List Stored). IsReplayed me l after) both (replayed-run me (take (from - 1) log) entries service after (batches_run me from entries service) is)
+
 -- a batch by its first entry
 pub run-more : (me index : ℕ) (s : Stored) (later : List Stored) (service : State)
     → run_all me index (s ∷ later) service ≡ and_then (run_one me index s service) (run_all me (index + 1) later (run_one me index s service).service)
@@ -85,9 +106,6 @@ run-none me index service = refl
 pub record LeadsTo (me index to : ℕ) (log : List Stored) (service : State) (answers : List Answer) (whole : Batch) : Type 0 where
   pub ends : (run_all me index (entries_between log index to) service).service ≡ whole.service
   pub gives : answers ++ (run_all me index (entries_between log index to) service).answers ≡ whole.answers
-
-pub leads-begin : (me index to : ℕ) (log : List Stored) (service : State) → LeadsTo me index to log service [] (run_all me index (entries_between log index to) service)
-leads-begin me index to log service = record { ends = refl; gives = refl }
 
 pub leads-more : (me index to : ℕ) (log : List Stored) (service after : State) (answers more : List Answer) (whole : Batch) → 1 ≤ index → index ≤ to → to ≤ length log
     → after ≡ (run_one me index (stored_at log index) service).service → more ≡ answers ++ (run_one me index (stored_at log index) service).answers

@@ -5,7 +5,8 @@ use Rattle.r2_base.specs.declared.entry.Kind.TheVariants.{Blank}
 use Rattle.r2_base.specs.Entry.{no_rid}
 use Rattle.hc_order.specs.Taking.{Grown}
 use Rattle.hc_order.specs.Apart.{ShareNoRequest}
-use Rattle.hc_order.proofs.Growing.{appending-apart, are-next-step, grown-end, grown-step, grown-stop}
+use Rattle.hc_order.proofs.Grown.{appending-apart}
+use Rattle.hc_order.proofs.Growing.{are-next-step, grown-end, grown-step, grown-stop}
 use Rattle.hc_order.proofs.appending.append_each.Goals as goal
 
 -- what is read past the end

@@ -1,4 +1,4 @@
--- What was applied and answered stays right as long as the front of the log does.
+-- What was applied and answered stays right as long as that prefix of the log stays.
 use Rattle.std.proofs.Common.{◌≡◌, ℕ, ◌+◌, ◌<◌, ◌≤◌, List, ◌++◌, length, take, drop, get_or, slice_get, Some, sym, ap, subst, ◌∙◌, arith, take-append-drop}
 use Rattle.std.specs.Prelude.{All}
 use Rattle.std.proofs.lemmas.List.{get_or-take, length-map, length-take, map-append, take-take}
@@ -22,7 +22,7 @@ pub replayed-front : (me applied keep : ℕ) (old new : List Stored) (service : 
 replayed-front me applied keep old new service low same is =
     subst (λ (log : List Stored). IsReplayed me log service) (same-front applied keep old new low same) is
 
--- an entry of the front is in both
+-- an entry of the prefix is in both
 pub entry-front : (before keep : ℕ) (old new : List Stored) (stored : Stored) → before < keep → take keep old ≡ take keep new
     → slice_get old before ≡ Some stored → slice_get new before ≡ Some stored
 entry-front before keep old new stored low same there =
@@ -34,7 +34,7 @@ entry-front before keep old new stored low same there =
     ∙ get_or-take keep old before stored low ∙ get_or_from_slice_get old before stored stored there in
     slice_get-get_or new before stored within ∙ ap (λ (x : Stored). Some x) read
 
--- the reply to an entry of the front is the same without the others
+-- the reply to an entry of the prefix is the same without the others
 reply-front : (keep index : ℕ) (log : List Stored) → index ≤ keep → index ≤ length log
     → reply_at (operations log) index ≡ reply_at (operations (take keep log)) index
 unfolding operations
