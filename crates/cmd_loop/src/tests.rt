@@ -4,7 +4,7 @@ ghost use Rattle.std.specs.Prelude.{◌≡◌, ℕ, ◌+◌, ◌*◌, ◌≤◌,
 ghost use Rattle.std.proofs.Common.{rules};
 ghost use Rattle.hc_log.specs.Durable.{replay};
 
-use crate::{Pace, Party, serve};
+use crate::{Pace, Party, Plain, PlainParty, serve, serve_without_journal};
 use cmd_status::Status;
 use hc_journal::MemJournal;
 use hc_log::{Entries, Record, Turn};
@@ -221,5 +221,47 @@ fn a_noter_stores_before_it_sends_and_answers_all(rt: HostRuntime) -> Result<(),
         assert_eq!(rt; ran.records, records);
         assert_eq!(rt; ran.hurried, hurried);
     }
+    Ok(())
+}
+
+/// It hears each event, and says nothing.
+#[derive(Drop)]
+struct Listener {
+    alloc: Global,
+}
+
+impl PlainParty for Listener {
+    ghost turned = { λ a events sends b. ⊤ };
+
+    ghost had_turns = { λ n a. ⊤ };
+
+    fn turn(&mut self, _event: &Event) -> Result<Datagrams, NoMemory> {
+        Ok(Datagrams::new(self.alloc))
+    }
+
+    ghost begins = { λ a. Prim.search rules };
+}
+
+#[test]
+fn a_plain_party_waits_for_what_comes(rt: HostRuntime) -> Result<(), Fail> {
+    let alloc = rt.alloc();
+    let lane = Lane {
+        items: requests(alloc)?,
+        room: Room { bytes: 0, calls: 0 },
+        fails: Numbers::new(alloc),
+    };
+    let inner = MemLink::new(alloc, lane, Lanes::new(alloc))?;
+    let mut link = Waits { inner, hurried: 0 };
+    let mut clock = MemClock::new(Numbers::new(alloc), Numbers::new(alloc));
+    let pace = Pace {
+        tick_ms: 10,
+        turns: 2,
+    };
+    let mut party = Plain {
+        party: Listener { alloc },
+    };
+    let status = serve_without_journal(alloc, &mut party, &mut link, &mut clock, pace);
+    assert_eq!(rt; status, Status::TurnsSpent);
+    assert_eq!(rt; link.hurried, 0);
     Ok(())
 }
