@@ -434,8 +434,8 @@ def line_words(line):
 def line_note(line):
     """The same on one line, without what lines of a short script have in common; empty where there is nothing to say."""
     words = line_words(line)
-    if len(words) > 1 and not words[1].startswith("entry 1:"):
+    if len(words) > 1 and re.match("entry ([2-9]|[0-9]{2})", words[1]):
         del words[0]
     if len(words) > NOTED:
         words[2:-1] = [".."]
-    return re.sub(r" of [0-9.]+:\d+ in term \d+, replier \d", "", "; ".join(words))
+    return re.sub(r" of [0-9.]+:\d+ in term \d+(, replier 0)?", "", "; ".join(words))

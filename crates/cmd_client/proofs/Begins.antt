@@ -36,9 +36,9 @@ unfolding items_of moments_of
 went-asks s s' k policy body a b may is passed =
     went-one (talk s k false) (talk s' k false) a b (Asks policy body) (refl, refl, may) (ap (λ (x : SessionState). talk x k false) is) passed
 
-pub cuts-asks : (s : SessionState) (k : Ticker) (policy : ℕ) (body : List ℕ) (a b : Ends) (front rest : List Datagram) (room : ℕ) → refusal s body ≡ None
-    → sending s.me s.targets (new_call s policy body) ≡ front ++ rest → Talks a b [] [] front []
+pub cuts-asks : (s : SessionState) (k : Ticker) (policy : ℕ) (body : List ℕ) (a b : Ends) (prefix rest : List Datagram) (room : ℕ) → refusal s body ≡ None
+    → sending s.me s.targets (new_call s policy body) ≡ prefix ++ rest → Talks a b [] [] prefix []
     → CutsSends (record { policy = policy; body = body } ∷ []) room (talk s k false) a b
 unfolding items_of moments_of asked_in
-cuts-asks s k policy body a b front rest room may gives passed =
-    cut-one room (talk s k false) a b (Asks policy body) front rest (refl, refl, may) (omega arith) gives passed
+cuts-asks s k policy body a b prefix rest room may gives passed =
+    cut-one room (talk s k false) a b (Asks policy body) prefix rest (refl, refl, may) (omega arith) gives passed

@@ -107,11 +107,11 @@ asks-last xs mid last before after p q = ap asked_in (append_assoc xs mid (last 
 goes-then : (t u : Talk) (a b c : Ends) (xs : List Step) (before after : List Asked) (Then More : Talk → List Step → Type 0)
     → Went t u a b xs → asked_in xs ≡ before → ((v : Talk) (ys : List Step) → Then v ys → More v (xs ++ ys)) → Goes after u b c Then → Goes (before ++ after) t a c More
 goes-then t u a b c xs before after Then More went asks on goes = record {
-  behind = goes.behind;
+  after = goes.after;
   steps = xs ++ goes.steps;
-  went = went-then t u goes.behind a b c xs goes.steps went goes.went;
+  went = went-then t u goes.after a b c xs goes.steps went goes.went;
   asks = asks-then xs goes.steps before after asks goes.asks;
-  then = on goes.behind goes.steps goes.then;
+  then = on goes.after goes.steps goes.then;
 }
 
 -- the talk after more steps is the one after all of them, from the start
@@ -143,17 +143,17 @@ within-last room more xs before last sum within =
 
 sends-then-cut : (t u : Talk) (a b c : Ends) (xs : List Step) (before after : List Asked) (room more : ℕ) → Went t u a b xs → asked_in xs ≡ before → length (items_of xs) + more ≡ room → CutsSends after more u b c → CutsSends (before ++ after) room t a c
 sends-then-cut t u a b c xs before after room more went asks sum cut =
-    let took = took-last t u a b c xs cut.before cut.last ((course u cut.before).sends ++ cut.front) (ends_text (course u cut.before).ends) went cut.took in
-    let sends : (course t xs).sends ++ ((course u cut.before).sends ++ cut.front) ≡ (course t (xs ++ cut.before)).sends ++ cut.front
-    = sym (append_assoc (course t xs).sends (course u cut.before).sends cut.front) ∙ ap (λ (l : List Datagram). l ++ cut.front) (sends-from t u xs cut.before went.left) in
+    let took = took-last t u a b c xs cut.before cut.last ((course u cut.before).sends ++ cut.prefix) (ends_text (course u cut.before).ends) went cut.took in
+    let sends : (course t xs).sends ++ ((course u cut.before).sends ++ cut.prefix) ≡ (course t (xs ++ cut.before)).sends ++ cut.prefix
+    = sym (append_assoc (course t xs).sends (course u cut.before).sends cut.prefix) ∙ ap (λ (l : List Datagram). l ++ cut.prefix) (sends-from t u xs cut.before went.left) in
     record {
       before = xs ++ cut.before;
       last = cut.last;
-      front = cut.front;
+      prefix = cut.prefix;
       rest = cut.rest;
-      gives = subst (λ (w : Talk). (taken w cut.last).sends ≡ cut.front ++ cut.rest) (last-then t u xs cut.before went.left) cut.gives;
+      gives = subst (λ (w : Talk). (taken w cut.last).sends ≡ cut.prefix ++ cut.rest) (last-then t u xs cut.before went.left) cut.gives;
       took = subst (λ (ds : List Datagram). Took t a c ((xs ++ cut.before) ++ cut.last ∷ []) ds (ends_text (course t (xs ++ cut.before)).ends)) sends
-          (subst (λ (w : List ℕ). Took t a c ((xs ++ cut.before) ++ cut.last ∷ []) ((course t xs).sends ++ ((course u cut.before).sends ++ cut.front)) w) (text-from t u xs cut.before went.left) took);
+          (subst (λ (w : List ℕ). Took t a c ((xs ++ cut.before) ++ cut.last ∷ []) ((course t xs).sends ++ ((course u cut.before).sends ++ cut.prefix)) w) (text-from t u xs cut.before went.left) took);
       asks = asks-last xs cut.before cut.last before after asks cut.asks;
       within = within-last room more xs cut.before cut.last sum cut.within;
     }
@@ -161,22 +161,22 @@ sends-then-cut t u a b c xs before after room more went asks sum cut =
 line-then-cut : (t u : Talk) (a b c : Ends) (xs : List Step) (before after : List Asked) (room more : ℕ) → Went t u a b xs → asked_in xs ≡ before → length (items_of xs) + more ≡ room → CutsLine after more u b c → CutsLine (before ++ after) room t a c
 line-then-cut t u a b c xs before after room more went asks sum cut =
     let last_sends = (taken (course u cut.before).next cut.last).sends in
-    let took = took-last t u a b c xs cut.before cut.last ((course u cut.before).sends ++ last_sends) (ends_text (course u cut.before).ends ++ cut.front) went cut.took in
+    let took = took-last t u a b c xs cut.before cut.last ((course u cut.before).sends ++ last_sends) (ends_text (course u cut.before).ends ++ cut.prefix) went cut.took in
     let next = last-then t u xs cut.before went.left in
     let sends : (course t xs).sends ++ ((course u cut.before).sends ++ last_sends) ≡ (course t (xs ++ cut.before)).sends ++ (taken (course t (xs ++ cut.before)).next cut.last).sends
     = sym (append_assoc (course t xs).sends (course u cut.before).sends last_sends)
     ∙ ap (λ (l : List Datagram). l ++ last_sends) (sends-from t u xs cut.before went.left)
     ∙ ap (λ (w : Talk). (course t (xs ++ cut.before)).sends ++ (taken w cut.last).sends) next in
-    let text : ends_text (course t xs).ends ++ (ends_text (course u cut.before).ends ++ cut.front) ≡ ends_text (course t (xs ++ cut.before)).ends ++ cut.front
-    = sym (append_assoc (ends_text (course t xs).ends) (ends_text (course u cut.before).ends) cut.front)
-    ∙ ap (λ (l : List ℕ). l ++ cut.front) (text-from t u xs cut.before went.left) in
+    let text : ends_text (course t xs).ends ++ (ends_text (course u cut.before).ends ++ cut.prefix) ≡ ends_text (course t (xs ++ cut.before)).ends ++ cut.prefix
+    = sym (append_assoc (ends_text (course t xs).ends) (ends_text (course u cut.before).ends) cut.prefix)
+    ∙ ap (λ (l : List ℕ). l ++ cut.prefix) (text-from t u xs cut.before went.left) in
     record {
       before = xs ++ cut.before;
       last = cut.last;
-      front = cut.front;
+      prefix = cut.prefix;
       rest = cut.rest;
-      gives = subst (λ (w : Talk). ends_text (taken w cut.last).ends ≡ cut.front ++ cut.rest) next cut.gives;
-      took = subst (λ (ds : List Datagram). Took t a c ((xs ++ cut.before) ++ cut.last ∷ []) ds (ends_text (course t (xs ++ cut.before)).ends ++ cut.front)) sends
+      gives = subst (λ (w : Talk). ends_text (taken w cut.last).ends ≡ cut.prefix ++ cut.rest) next cut.gives;
+      took = subst (λ (ds : List Datagram). Took t a c ((xs ++ cut.before) ++ cut.last ∷ []) ds (ends_text (course t (xs ++ cut.before)).ends ++ cut.prefix)) sends
           (subst (λ (w : List ℕ). Took t a c ((xs ++ cut.before) ++ cut.last ∷ []) ((course t xs).sends ++ ((course u cut.before).sends ++ last_sends)) w) text took);
       asks = asks-last xs cut.before cut.last before after asks cut.asks;
       within = within-last room more xs cut.before cut.last sum cut.within;
@@ -209,7 +209,7 @@ stops-then t u a b c xs before after room more TurnsSpent went asks sum stops =
     goes-then t u a b c xs before after (λ v ys. Waits v × (length (items_of ys) ≡ more)) (λ v ys. Waits v × (length (items_of ys) ≡ room)) went asks
     (λ v ys h. (h.0, omega (arith, few-then xs ys, h.1, sum))) stops
 stops-then t u a b c xs before after room more ClockFault went asks sum stops =
-    goes-then t u a b c xs before after (λ v ys. (v.over ≡ false) × (v.behind ≡ true) × (length (items_of ys) ≤ more)) (λ v ys. (v.over ≡ false) × (v.behind ≡ true) × (length (items_of ys) ≤ room)) went asks
+    goes-then t u a b c xs before after (λ v ys. (v.over ≡ false) × (v.heard ≡ true) × (length (items_of ys) ≤ more)) (λ v ys. (v.over ≡ false) × (v.heard ≡ true) × (length (items_of ys) ≤ room)) went asks
     (λ v ys h. (h.0, h.1, omega (arith, few-then xs ys, h.2, sum))) stops
 stops-then t u a b c xs before after room more LinkFault went asks sum (inl stops) =
     inl (goes-then t u a b c xs before after (λ v ys. Waits v × (length (items_of ys) < more)) (λ v ys. Waits v × (length (items_of ys) < room)) went asks

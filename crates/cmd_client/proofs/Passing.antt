@@ -14,10 +14,6 @@ use Rattle.cmd_loop.specs.Ends.{Ends, Passes, passing}
 use Rattle.cmd_loop.proofs.Passing.{Passes-nothing, Passes-then}
 use Rattle.cmd_client.specs.Outside.{AreHeard, LinkTalks, Talks, silence, talking}
 
--- ends that tell nothing
-abbrev pub silent : Ends
-silent = record { source = None; written = None; link = record { left = None; sent = None; lanes = None; me = None }; clock = None; records = None }
-
 -- an answer of the link is an item
 pub heard-datagram : (a b : LinkTold) (d : Datagram) → LinkPasses a b (ADatagram d ∷ []) [] → LinkTalks a b (ADatagram d ∷ []) []
 heard-datagram a b d passed = record { came = ADatagram d ∷ []; heard = record { quiets = 0; heard = refl; dry = λ h. absurd (omega (arith, h)) }; passed = passed }

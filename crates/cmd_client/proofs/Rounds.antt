@@ -9,7 +9,7 @@ use Rattle.r2_link.specs.declared.lane.Item.{Item}
 use Rattle.r2_link.specs.declared.lane.Item.TheVariants.{Datagram as ADatagram, Quiet as NoDatagram}
 use Rattle.r2_link.specs.Links.{LinkPasses, LinkTold}
 use Rattle.r2_link.specs.Moments.{Tells as TellsMoments}
-use Rattle.r2_link.specs.Streams.{AppendsFront}
+use Rattle.r2_link.specs.Streams.{AppendsPrefix}
 use Rattle.r2_link.proofs.Streams.{Appends-nil}
 use Rattle.r2_client.specs.declared.call_end.CallEnd.{CallEnd}
 use Rattle.r2_client.specs.declared.call_end.CallEnd.TheVariants.{TimedOut as EndTimedOut}
@@ -45,17 +45,17 @@ went-one t u a b x may next passed = record {
   left = next;
 }
 
-pub cut-one : (room : ℕ) (t : Talk) (a b : Ends) (x : Step) (front rest : List Datagram) → MayTake t x → length (items_of (x ∷ [])) ≤ room
-    → (taken t x).sends ≡ front ++ rest → Talks a b (items_of (x ∷ [])) (moments_of (x ∷ [])) front [] → CutsSends (asked_in (x ∷ [])) room t a b
+pub cut-one : (room : ℕ) (t : Talk) (a b : Ends) (x : Step) (prefix rest : List Datagram) → MayTake t x → length (items_of (x ∷ [])) ≤ room
+    → (taken t x).sends ≡ prefix ++ rest → Talks a b (items_of (x ∷ [])) (moments_of (x ∷ [])) prefix [] → CutsSends (asked_in (x ∷ [])) room t a b
 unfolding course
-cut-one room t a b x front rest may within gives passed =
-    record { before = []; last = x; front = front; rest = rest; gives = gives; took = record { in_turn = (may, tt); passed = passed }; asks = refl; within = within }
+cut-one room t a b x prefix rest may within gives passed =
+    record { before = []; last = x; prefix = prefix; rest = rest; gives = gives; took = record { in_turn = (may, tt); passed = passed }; asks = refl; within = within }
 
-pub line-one : (room : ℕ) (t : Talk) (a b : Ends) (x : Step) (front rest : List ℕ) → MayTake t x → length (items_of (x ∷ [])) ≤ room
-    → ends_text (taken t x).ends ≡ front ++ rest → Talks a b (items_of (x ∷ [])) (moments_of (x ∷ [])) (taken t x).sends front → CutsLine (asked_in (x ∷ [])) room t a b
+pub line-one : (room : ℕ) (t : Talk) (a b : Ends) (x : Step) (prefix rest : List ℕ) → MayTake t x → length (items_of (x ∷ [])) ≤ room
+    → ends_text (taken t x).ends ≡ prefix ++ rest → Talks a b (items_of (x ∷ [])) (moments_of (x ∷ [])) (taken t x).sends prefix → CutsLine (asked_in (x ∷ [])) room t a b
 unfolding course
-line-one room t a b x front rest may within gives passed =
-    record { before = []; last = x; front = front; rest = rest; gives = gives; took = record { in_turn = (may, tt); passed = passed }; asks = refl; within = within }
+line-one room t a b x prefix rest may within gives passed =
+    record { before = []; last = x; prefix = prefix; rest = rest; gives = gives; took = record { in_turn = (may, tt); passed = passed }; asks = refl; within = within }
 
 pub lost-one : (room : ℕ) (t : Talk) (a b : Ends) (x : Step) → MayTake t x → length (items_of (x ∷ [])) ≤ room
     → Talks a b (items_of (x ∷ [])) (moments_of (x ∷ [])) [] [] → LosesStep (asked_in (x ∷ [])) room t a b
@@ -79,21 +79,21 @@ pub went-hears : (s s' : SessionState) (k : Ticker) (item : Item) (end : Option 
 unfolding items_of moments_of
 went-hears s s' k item end a b opened session ended passed =
     went-one (talk s k false) (talk s' k true) a b (Hears item) (refl, refl, opened)
-    (ap (λ (x : SessionState). talk x k true) session ∙ ap (λ (b : Bool). record { session = (stepped s (event_of item)).session; ticker = k; behind = true; over = b }) (sym (never-times-out s item)))
+    (ap (λ (x : SessionState). talk x k true) session ∙ ap (λ (b : Bool). record { session = (stepped s (event_of item)).session; ticker = k; heard = true; over = b }) (sym (never-times-out s item)))
     (subst (λ (e : Option CallEnd). Talks a b (item ∷ []) [] (stepped s (event_of item)).step.sends (ends_text (listed e))) ended passed)
 
 -- the clock gave a moment
 pub went-tells : (s s' : SessionState) (k u : Ticker) (moment : ℕ) (end : Option CallEnd) (r : Stepped) (a b : Ends)
     → u ≡ ticked k moment → stepped_by s (due_at k moment) ≡ r → s' ≡ r.session → end ≡ r.step.end
     → Talks a b [] (moment ∷ []) r.step.sends (ends_text (listed end))
-    → Went (talk s k true) (record { session = s'; ticker = u; behind = false; over = times_out end }) a b (Tells moment ∷ [])
+    → Went (talk s k true) (record { session = s'; ticker = u; heard = false; over = times_out end }) a b (Tells moment ∷ [])
 unfolding items_of moments_of
 went-tells s s' k u moment end r a b ticker step session ended passed =
-    went-one (talk s k true) (record { session = s'; ticker = u; behind = false; over = times_out end }) a b (Tells moment) (refl, refl)
-    (ap (λ (x : SessionState). record { session = x; ticker = u; behind = false; over = times_out end }) session
-    ∙ ap (λ (x : Ticker). record { session = r.session; ticker = x; behind = false; over = times_out end }) ticker
-    ∙ ap (λ (e : Option CallEnd). record { session = r.session; ticker = ticked k moment; behind = false; over = times_out e }) ended
-    ∙ ap (λ (x : Stepped). record { session = x.session; ticker = ticked k moment; behind = false; over = times_out x.step.end }) (sym step))
+    went-one (talk s k true) (record { session = s'; ticker = u; heard = false; over = times_out end }) a b (Tells moment) (refl, refl)
+    (ap (λ (x : SessionState). record { session = x; ticker = u; heard = false; over = times_out end }) session
+    ∙ ap (λ (x : Ticker). record { session = r.session; ticker = x; heard = false; over = times_out end }) ticker
+    ∙ ap (λ (e : Option CallEnd). record { session = r.session; ticker = ticked k moment; heard = false; over = times_out e }) ended
+    ∙ ap (λ (x : Stepped). record { session = x.session; ticker = ticked k moment; heard = false; over = times_out x.step.end }) (sym step))
     (subst (λ (x : Stepped). Talks a b [] (moment ∷ []) x.step.sends (ends_text (listed x.step.end))) (sym step)
     (subst (λ (e : Option CallEnd). Talks a b [] (moment ∷ []) r.step.sends (ends_text (listed e))) ended passed))
 
@@ -101,16 +101,16 @@ went-tells s s' k u moment end r a b ticker step session ended passed =
 pub stops-receiving : (t : Talk) (a b : Ends) (room : ℕ) (status : Status) → Waits t → 0 < room → Talks a b [] [] [] [] → StopsReceiving status → StopsTalk [] room t a b status
 unfolding course items_of moments_of asked_in
 stops-receiving t a b room LinkFault waits some passed stops =
-    inl (record { behind = t; steps = []; went = record { took = record { in_turn = tt; passed = passed }; left = refl }; asks = refl; then = (waits, some) })
+    inl (record { after = t; steps = []; went = record { took = record { in_turn = tt; passed = passed }; left = refl }; asks = refl; then = (waits, some) })
 stops-receiving t a b room Memory waits some passed stops =
-    inl (record { behind = t; steps = []; went = record { took = record { in_turn = tt; passed = passed }; left = refl }; asks = refl; then = omega arith })
+    inl (record { after = t; steps = []; went = record { took = record { in_turn = tt; passed = passed }; left = refl }; asks = refl; then = omega arith })
 stops-receiving t a b room _ waits some passed stops = absurd stops
 
 -- nothing passed, and the clock had no moment
-pub misses : (t : Talk) (a b : Ends) (room : ℕ) → t.over ≡ false → t.behind ≡ true → Talks a b [] [] [] [] → Goes [] t a b (λ u steps. (u.over ≡ false) × (u.behind ≡ true) × (length (items_of steps) ≤ room))
+pub misses : (t : Talk) (a b : Ends) (room : ℕ) → t.over ≡ false → t.heard ≡ true → Talks a b [] [] [] [] → Goes [] t a b (λ u steps. (u.over ≡ false) × (u.heard ≡ true) × (length (items_of steps) ≤ room))
 unfolding course items_of moments_of asked_in
-misses t a b room over behind passed =
-    record { behind = t; steps = []; went = record { took = record { in_turn = tt; passed = passed }; left = refl }; asks = refl; then = (over, behind, omega arith) }
+misses t a b room over heard passed =
+    record { after = t; steps = []; went = record { took = record { in_turn = tt; passed = passed }; left = refl }; asks = refl; then = (over, heard, omega arith) }
 
 -- the step of an item wasn't made whole
 pub stops-hearing : (o : Ends) (s : SessionState) (k : Ticker) (item : Item) (p q r : LinkTold) (w : Option (List ℕ)) (room : ℕ) (status : Status)
@@ -134,14 +134,14 @@ by-sink room t a b old new _ stops cut = absurd stops
 -- the line of a call that an item ended wasn't printed whole
 pub stops-line-hears : (o : Ends) (s : SessionState) (k : Ticker) (item : Item) (end : CallEnd) (p q r : LinkTold) (w x : Option (List ℕ)) (room old new : ℕ) (status : Status)
     → IsOpen s.open_call → 0 < room → LinkTalks p q (item ∷ []) [] → LinkPasses q r [] (stepped s (event_of item)).step.sends
-    → Some end ≡ (stepped s (event_of item)).step.end → AppendsFront w x (end_text end) → StopsBySink old new status
+    → Some end ≡ (stepped s (event_of item)).step.end → AppendsPrefix w x (end_text end) → StopsBySink old new status
     → StopsTalk [] room (talk s k false) (record o { link = p; written = w }) (record o { link = r; written = x }) status
 unfolding items_of moments_of asked_in
-stops-line-hears o s k item end p q r w x room old new status opened some heard sent ended front stops =
+stops-line-hears o s k item end p q r w x room old new status opened some heard sent ended prefix stops =
     by-sink room (talk s k false) (record o { link = p; written = w }) (record o { link = r; written = x }) old new status stops
-    (line-one room (talk s k false) (record o { link = p; written = w }) (record o { link = r; written = x }) (Hears item) front.front front.rest (refl, refl, opened) some
-    (ap (λ (e : Option CallEnd). ends_text (listed e)) (sym ended) ∙ ended-text end ∙ front.split)
-    (talks-hears o p q r w x item (stepped s (event_of item)).step.sends front.front heard sent front.gave))
+    (line-one room (talk s k false) (record o { link = p; written = w }) (record o { link = r; written = x }) (Hears item) prefix.prefix prefix.rest (refl, refl, opened) some
+    (ap (λ (e : Option CallEnd). ends_text (listed e)) (sym ended) ∙ ended-text end ∙ prefix.split)
+    (talks-hears o p q r w x item (stepped s (event_of item)).step.sends prefix.prefix heard sent prefix.gave))
 
 -- the tick's step wasn't made whole
 pub stops-telling : (o : Ends) (s : SessionState) (k : Ticker) (moment : ℕ) (p q : LinkTold) (c e w : Option (List ℕ)) (room : ℕ) (status : Status)
@@ -160,17 +160,17 @@ stops-telling o s k moment p q c e w room _ is_due told stops = absurd stops
 -- the line of a call that timed out wasn't printed whole
 pub stops-line-tells : (o : Ends) (s : SessionState) (k : Ticker) (moment : ℕ) (end : CallEnd) (p q : LinkTold) (c e w x : Option (List ℕ)) (room old new : ℕ) (status : Status)
     → due_at k moment ≡ Tick ∷ [] → TellsMoments c e (moment ∷ []) → LinkPasses p q [] (stepped s Tick).step.sends
-    → Some end ≡ (stepped s Tick).step.end → AppendsFront w x (end_text end) → StopsBySink old new status
+    → Some end ≡ (stepped s Tick).step.end → AppendsPrefix w x (end_text end) → StopsBySink old new status
     → StopsTalk [] room (talk s k true) (record o { link = p; clock = c; written = w }) (record o { link = q; clock = e; written = x }) status
 unfolding items_of moments_of asked_in
-stops-line-tells o s k moment end p q c e w x room old new status is_due told sent ended front stops =
+stops-line-tells o s k moment end p q c e w x room old new status is_due told sent ended prefix stops =
     let a : Ends = record o { link = p; clock = c; written = w } in
     let b : Ends = record o { link = q; clock = e; written = x } in
     by-sink room (talk s k true) a b old new status stops
-    (line-one room (talk s k true) a b (Tells moment) front.front front.rest (refl, refl) (omega arith)
-    (ap (λ (es : List Event). ends_text (listed (stepped_by s es).step.end)) is_due ∙ ap (λ (e : Option CallEnd). ends_text (listed e)) (sym ended) ∙ ended-text end ∙ front.split)
-    (subst (λ (es : List Event). Talks a b [] (moment ∷ []) (stepped_by s es).step.sends front.front) (sym is_due)
-    (talks-tells o p q c e w x moment (stepped s Tick).step.sends front.front told sent front.gave)))
+    (line-one room (talk s k true) a b (Tells moment) prefix.prefix prefix.rest (refl, refl) (omega arith)
+    (ap (λ (es : List Event). ends_text (listed (stepped_by s es).step.end)) is_due ∙ ap (λ (e : Option CallEnd). ends_text (listed e)) (sym ended) ∙ ended-text end ∙ prefix.split)
+    (subst (λ (es : List Event). Talks a b [] (moment ∷ []) (stepped_by s es).step.sends prefix.prefix) (sym is_due)
+    (talks-tells o p q c e w x moment (stepped s Tick).step.sends prefix.prefix told sent prefix.gave)))
 
 -- the call timed out, and its line was printed
 pub times-out : (o : Ends) (s s' : SessionState) (k u : Ticker) (moment : ℕ) (end : CallEnd) (p q : LinkTold) (c e w x : Option (List ℕ)) (room : ℕ)
@@ -179,7 +179,7 @@ pub times-out : (o : Ends) (s s' : SessionState) (k u : Ticker) (moment : ℕ) (
     → StopsTalk [] room (talk s k true) (record o { link = p; clock = c; written = w }) (record o { link = q; clock = e; written = x }) TimedOut
 unfolding items_of moments_of course asked_in
 times-out o s s' k u moment end p q c e w x room is_due ticker told sent session ended is_timeout wrote = record {
-  behind = record { session = s'; ticker = u; behind = false; over = times_out (Some end) };
+  after = record { session = s'; ticker = u; heard = false; over = times_out (Some end) };
   steps = Tells moment ∷ [];
   went = went-tells s s' k u moment (Some end) (stepped s Tick) (record o { link = p; clock = c; written = w }) (record o { link = q; clock = e; written = x }) ticker (ap (λ (es : List Event). stepped_by s es) is_due) session ended
       (talks-tells o p q c e w x moment (stepped s Tick).step.sends (ends_text (listed (Some end))) told sent (subst (λ (t : List ℕ). Appends w x t) (sym (ended-text end)) wrote));

@@ -1,14 +1,16 @@
 -- A run of a script's lines, from line to line.
-use Rattle.std.proofs.Common.{◌≡◌, ◌≢◌, inl, inr, ℕ, ◌+◌, ◌≤◌, true, false, List, [], ◌∷◌, ◌++◌, length, Option, Some, None, Ok, Err, refl, ap, ◌∙◌, append-nil, arith}
+use Rattle.std.proofs.Common.{◌≡◌, ◌≢◌, inl, inr, ℕ, ◌+◌, ◌≤◌, true, false, List, [], ◌∷◌, ◌++◌, length, Option, Some, None, Ok, Err, refl, ap, ◌∙◌, subst, append-nil, arith}
 use Rattle.r2_client.specs.declared.begin_fault.BeginFault.TheVariants.{IdsUsed as NoIds}
 use Rattle.r2_client.specs.Session.{refusal}
+use Rattle.r2_client.specs.State.{SessionState}
 use Rattle.std.specs.Io.KnownBytes.{Consumes}
 use Rattle.cmd_lines.specs.declared.line_fault.LineFault.{LineFault}
 use Rattle.cmd_lines.specs.declared.line_fault.LineFault.TheVariants.{Source, Memory as NoRoom, TooLong, Limit}
 use Rattle.cmd_lines.specs.Faults.{status_of}
 use Rattle.cmd_lines.specs.Limits.{most_line}
 use Rattle.cmd_lines.specs.Reader.{KnowsEnd, ReaderState, ReadsLine}
-use Rattle.cmd_lines.proofs.Places.{EndsHere, LinePlace, Place, at-first, fault-read, fresh, front-before, next-of, none-read, place-then, took-of}
+use Rattle.cmd_lines.proofs.Places.{EndsHere, LinePlace, Place, at-first, fault-read, fresh, prefix-before, next-of, none-read, place-then, took-of}
+use Rattle.cmd_loop.specs.declared.ticker.Ticker.{Ticker}
 use Rattle.cmd_loop.specs.Ends.{Ends}
 use Rattle.cmd_status.specs.declared.status.Status.{Status}
 use Rattle.cmd_status.specs.declared.status.Status.TheVariants.{Done, BadScript, Memory, SinkFault, LinkFault, ClockFault, TimedOut, IdsUsed, TurnsSpent}
@@ -20,7 +22,7 @@ use Rattle.cmd_client.specs.Lines.{MakesLine, StopsLine}
 use Rattle.cmd_client.specs.Outside.{Talks}
 use Rattle.cmd_client.specs.Script.{AsksFor}
 use Rattle.cmd_client.specs.Stops.{Completes, Goes, StopsCall, StopsTalk, Went}
-use Rattle.cmd_client.specs.Talk.{Asked, Step, Talk, asked_in, course, items_of, moments_of}
+use Rattle.cmd_client.specs.Talk.{Asked, Step, Talk, asked_in, course, items_of, moments_of, talk}
 use Rattle.cmd_client.proofs.Courses.{asks-then, few-then, stops-then, went-none, went-then}
 use Rattle.cmd_client.proofs.Counts.{all-used}
 use Rattle.cmd_client.proofs.Passing.{talks-none}
@@ -53,13 +55,13 @@ went-still u b c passed = record { took = record { in_turn = tt; passed = passed
 
 -- no call timed out, and the clock was asked after each item
 abbrev pub IsIdle : Talk → Type 0
-IsIdle u = (u.over ≡ false) × (u.behind ≡ false)
+IsIdle u = (u.over ≡ false) × (u.heard ≡ false)
 
 -- the calls so far came to their ends, and nothing passed since
 goes-still : (t u : Talk) (a b c : Ends) (asked : List Asked) (room now : ℕ) (Then : Talk → List Step → Type 0)
     → (done : Completes asked room now t u a b) → Talks b c [] [] [] [] → Then u (done.steps ++ []) → Goes asked t a c Then
 goes-still t u a b c asked room now Then done passed then = record {
-  behind = u;
+  after = u;
   steps = done.steps ++ [];
   went = went-then t u u a b c done.steps [] done.went (went-still u b c passed);
   asks = ap asked_in (append-nil done.steps) ∙ done.asks;
@@ -70,9 +72,9 @@ few-still : (steps : List Step) (room now : ℕ) → length (items_of steps) + n
 few-still steps room now counted = let e = ap (λ (l : List Step). length (items_of l)) (append-nil steps) in omega (arith, e, counted)
 
 pub made-of : (t u : Talk) (a b c : Ends) (asked : List Asked) (room now : ℕ) → Completes asked room now t u a b → IsIdle u → Talks b c [] [] [] [] → AreMade asked room t a c
-made-of t u a b c asked room now done behind passed =
-    goes-still t u a b c asked room now (λ v steps. (v.over ≡ false) × (v.behind ≡ false) × (v.session.open_call ≡ None) × (length (items_of steps) ≤ room)) done passed
-    (behind.0, behind.1, done.none, few-still done.steps room now done.counted)
+made-of t u a b c asked room now done idle passed =
+    goes-still t u a b c asked room now (λ v steps. (v.over ≡ false) × (v.heard ≡ false) × (v.session.open_call ≡ None) × (length (items_of steps) ≤ room)) done passed
+    (idle.0, idle.1, done.none, few-still done.steps room now done.counted)
 
 -- a run begins before its first line
 pub here-first : (policy : Policy) (room : ℕ) (left : Option (List ℕ)) (t : Talk) (o : Ends) → t.session.open_call ≡ None → IsHere policy room room left left (fresh most_line) t t o o
@@ -130,7 +132,7 @@ module _ (policy : Policy) (room mid : ℕ) (left left' : Option (List ℕ)) (r 
     asked = asked;
     taken = taken;
     took = took;
-    ended = inl (made-of t u a b c asked room mid done idle passed, inl (front-before most_line (AsksFor policy) left left' r taken asked line place));
+    ended = inl (made-of t u a b c asked room mid done idle passed, inl (prefix-before most_line (AsksFor policy) left left' r taken asked line place));
   }
 
   -- the line's call stopped
@@ -175,7 +177,7 @@ module _ (policy : Policy) (room mid : ℕ) (left left' : Option (List ℕ)) (r 
       next = next-of most_line (AsksFor policy) left left' r taken asked line number place stops.nonempty is;
       asks = stops.asks;
       all = all-used t u a b asked room mid stops.call.body first done stops.stops.0;
-      made = goes-still t u a b c asked room mid (λ v steps. (v.over ≡ false) × (v.behind ≡ false) × (refusal v.session stops.call.body ≡ Some NoIds) × (length (items_of steps) ≤ room)) done stops.stops.1
+      made = goes-still t u a b c asked room mid (λ v steps. (v.over ≡ false) × (v.heard ≡ false) × (refusal v.session stops.call.body ≡ Some NoIds) × (length (items_of steps) ≤ room)) done stops.stops.1
           (idle.0, idle.1, stops.stops.0, few-still done.steps room mid done.counted);
     };
   }
@@ -185,6 +187,15 @@ module _ (policy : Policy) (room mid : ℕ) (left left' : Option (List ℕ)) (r 
   line-stops number TimedOut first is stops = record { asked = asked ++ stops.call ∷ []; taken = taken; took = took; ended = inr (in-call number stops.call TimedOut is stops.nonempty stops.asks stops.stops) }
   line-stops number TurnsSpent first is stops = record { asked = asked ++ stops.call ∷ []; taken = taken; took = took; ended = inr (in-call number stops.call TurnsSpent is stops.nonempty stops.asks stops.stops) }
   line-stops number _ first is stops = absurd stops.stops
+
+-- a run by what its client is
+pub runs-as : (policy policy' : Policy) (room room' : ℕ) (s s' : SessionState) (k k' : Ticker) → policy ≡ policy' → room ≡ room' → s ≡ s' → k ≡ k'
+    → (left left' : Option (List ℕ)) (a b : Ends) (status : Status) → RunsLines policy room left left' (talk s k false) a b status → RunsLines policy' room' left left' (talk s' k' false) a b status
+runs-as policy policy' room room' s s' k k' p n e f left left' a b status ran =
+    subst (λ (x : Policy). RunsLines x room' left left' (talk s' k' false) a b status) p
+    (subst (λ (x : ℕ). RunsLines policy x left left' (talk s' k' false) a b status) n
+    (subst (λ (x : SessionState). RunsLines policy room left left' (talk x k' false) a b status) e
+    (subst (λ (x : Ticker). RunsLines policy room left left' (talk s x false) a b status) f ran)))
 
 -- a run from its start
 pub calls-of : (calling : Calling) (pace : Pace) (a b : Ends) (status : Status) → RunsFrom calling pace a b status → Calls calling pace a b status

@@ -37,8 +37,8 @@ round-of t u v w a b c d steps item moment room left went asks counted some hear
 
 -- all that may be received was received
 pub spent : (t u : Talk) (a b : Ends) (steps : List Step) (room : ℕ) → Went t u a b steps → asked_in steps ≡ [] → length (items_of steps) ≡ room
-    → u.over ≡ false → u.behind ≡ false → IsOpen u.session.open_call → StopsTalk [] room t a b TurnsSpent
-spent t u a b steps room went asks all over behind opened = record { behind = u; steps = steps; went = went; asks = asks; then = ((over, behind, opened), all) }
+    → u.over ≡ false → u.heard ≡ false → IsOpen u.session.open_call → StopsTalk [] room t a b TurnsSpent
+spent t u a b steps room went asks all over heard opened = record { after = u; steps = steps; went = went; asks = asks; then = ((over, heard, opened), all) }
 
 -- a call that began, and came to its end
 pub completes : (t u v : Talk) (a b c : Ends) (call : Asked) (room left : ℕ) → Went t u a b (Asks call.policy call.body ∷ []) → Completes [] room left u v b c

@@ -26,7 +26,7 @@ begun calling pace start =
 -- these calls came to their ends, none by its time, no item was received beyond those that may be, and no call is open
 abbrev pub AreMade : List Asked → ℕ → Talk → Ends → Ends → Type 0
 AreMade asked room t old new =
-    Goes asked t old new (λ u steps. (u.over ≡ false) × (u.behind ≡ false) × (u.session.open_call ≡ None) × (length (items_of steps) ≤ room))
+    Goes asked t old new (λ u steps. (u.over ≡ false) × (u.heard ≡ false) × (u.session.open_call ≡ None) × (length (items_of steps) ≤ room))
 
 -- these calls came to their ends, each with an id, and all ids were used, so that the next line's call can't begin
 pub record RunsOut (policy : Policy) (asked : List Asked) (room : ℕ) (left : Option (List ℕ)) (taken : List ℕ) (t : Talk) (old new : Ends) : Type 0 where
@@ -36,7 +36,7 @@ pub record RunsOut (policy : Policy) (asked : List Asked) (room : ℕ) (left : O
   pub next : IsNext most_line (AsksFor policy) left taken asked line number
   pub asks : AsksFor policy line call
   pub all : length asked ≡ id_limit
-  pub made : Goes asked t old new (λ u steps. (u.over ≡ false) × (u.behind ≡ false) × (refusal u.session call.body ≡ Some NoIds) × (length (items_of steps) ≤ room))
+  pub made : Goes asked t old new (λ u steps. (u.over ≡ false) × (u.heard ≡ false) × (refusal u.session call.body ≡ Some NoIds) × (length (items_of steps) ≤ room))
 
 -- the last of these calls was stopped, that of the line that comes next
 pub record StopsIn (policy : Policy) (asked : List Asked) (room : ℕ) (left : Option (List ℕ)) (taken : List ℕ) (t : Talk) (old new : Ends) (status : Status) : Type 0 where

@@ -4,4 +4,5 @@ pub mod Stops
 pub mod Steps
 pub mod Script
 pub mod Lines
+pub mod Caller
 pub mod Calls

@@ -35,6 +35,10 @@ pub record Talks (old new : Ends) (items : List Item) (moments : List ℕ) (send
   pub heard : AreHeard old.link.left new.link.left came items
   pub passed : Passes old new (talking came moments sends text)
 
+-- among all ends, what a sink, a link and a clock tell
+abbrev pub around : Ends → Option (List ℕ) → LinkTold → Option (List ℕ) → Ends
+around o written link clock = record o { written = written; link = link; clock = clock }
+
 -- all ends but the source, of which what is taken is said by itself
 abbrev pub beside : Ends → Ends
 beside o = record o { source = None }

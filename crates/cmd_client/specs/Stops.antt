@@ -24,10 +24,10 @@ pub record Went (t u : Talk) (old new : Ends) (steps : List Step) : Type 0 where
 pub record CutsSends (asked : List Asked) (room : ℕ) (t : Talk) (old new : Ends) : Type 0 where
   pub before : List Step
   pub last : Step
-  pub front : List Datagram
+  pub prefix : List Datagram
   pub rest : List Datagram
-  pub gives : (taken (course t before).next last).sends ≡ front ++ rest
-  pub took : Took t old new (before ++ last ∷ []) ((course t before).sends ++ front) (ends_text (course t before).ends)
+  pub gives : (taken (course t before).next last).sends ≡ prefix ++ rest
+  pub took : Took t old new (before ++ last ∷ []) ((course t before).sends ++ prefix) (ends_text (course t before).ends)
   pub asks : asked_in (before ++ last ∷ []) ≡ asked
   pub within : length (items_of (before ++ last ∷ [])) ≤ room
 
@@ -35,10 +35,10 @@ pub record CutsSends (asked : List Asked) (room : ℕ) (t : Talk) (old new : End
 pub record CutsLine (asked : List Asked) (room : ℕ) (t : Talk) (old new : Ends) : Type 0 where
   pub before : List Step
   pub last : Step
-  pub front : List ℕ
+  pub prefix : List ℕ
   pub rest : List ℕ
-  pub gives : ends_text (taken (course t before).next last).ends ≡ front ++ rest
-  pub took : Took t old new (before ++ last ∷ []) ((course t before).sends ++ (taken (course t before).next last).sends) (ends_text (course t before).ends ++ front)
+  pub gives : ends_text (taken (course t before).next last).ends ≡ prefix ++ rest
+  pub took : Took t old new (before ++ last ∷ []) ((course t before).sends ++ (taken (course t before).next last).sends) (ends_text (course t before).ends ++ prefix)
   pub asks : asked_in (before ++ last ∷ []) ≡ asked
   pub within : length (items_of (before ++ last ∷ [])) ≤ room
 
@@ -52,15 +52,15 @@ pub record LosesStep (asked : List Asked) (room : ℕ) (t : Talk) (old new : End
 
 -- some steps were taken whole, and the talk is as these left it
 pub record Goes (asked : List Asked) (t : Talk) (old new : Ends) (Then : Talk → List Step → Type 0) : Type 0 where
-  pub behind : Talk
+  pub after : Talk
   pub steps : List Step
-  pub went : Went t behind old new steps
+  pub went : Went t after old new steps
   pub asks : asked_in steps ≡ asked
-  pub then : Then behind steps
+  pub then : Then after steps
 
 -- a call is open, none timed out, and the clock was asked after each item
 abbrev pub Waits : Talk → Type 0
-Waits t = (t.over ≡ false) × (t.behind ≡ false) × IsOpen t.session.open_call
+Waits t = (t.over ≡ false) × (t.heard ≡ false) × IsOpen t.session.open_call
 
 -- the last step was a moment, and by its tick the call timed out
 pub record TimesOut (t : Talk) (steps : List Step) : Type 0 where
@@ -72,7 +72,7 @@ pub record TimesOut (t : Talk) (steps : List Step) : Type 0 where
 -- why a call didn't come to its end, where so many items may be received; these calls were asked, the last of them if at all in part
 abbrev pub StopsTalk : List Asked → ℕ → Talk → Ends → Ends → Status → Type 0
 StopsTalk asked room t old new TurnsSpent = Goes asked t old new (λ u steps. Waits u × (length (items_of steps) ≡ room))
-StopsTalk asked room t old new ClockFault = Goes asked t old new (λ u steps. (u.over ≡ false) × (u.behind ≡ true) × (length (items_of steps) ≤ room))
+StopsTalk asked room t old new ClockFault = Goes asked t old new (λ u steps. (u.over ≡ false) × (u.heard ≡ true) × (length (items_of steps) ≤ room))
 StopsTalk asked room t old new LinkFault =
     Goes asked t old new (λ u steps. Waits u × (length (items_of steps) < room)) ⊎ CutsSends asked room t old new
 StopsTalk asked room t old new SinkFault = CutsLine asked room t old new

@@ -26,12 +26,12 @@ pub data Step : Type 0 where
 pub record Talk : Type 0 where
   pub session : SessionState
   pub ticker : Ticker
-  pub behind : Bool
+  pub heard : Bool
   pub over : Bool
 
 -- a talk in which no call timed out
 abbrev pub talk : SessionState → Ticker → Bool → Talk
-talk session ticker behind = record { session = session; ticker = ticker; behind = behind; over = false }
+talk session ticker heard = record { session = session; ticker = ticker; heard = heard; over = false }
 
 -- whether a call timed out
 abbrev pub times_out : Option CallEnd → Bool
@@ -52,9 +52,9 @@ listed (Some end) = end ∷ []
 
 -- what comes of a session's step
 abbrev pub outcome_of : Ticker → Bool → Stepped → Outcome
-outcome_of ticker behind r =
+outcome_of ticker heard r =
     record {
-      next = record { session = r.session; ticker = ticker; behind = behind; over = times_out r.step.end };
+      next = record { session = r.session; ticker = ticker; heard = heard; over = times_out r.step.end };
       sends = r.step.sends;
       ends = listed r.step.end;
     }
@@ -90,9 +90,9 @@ IsOpen (Some call) = Unit {0}
 -- which step may come next, as long as no call timed out: a call where none is open, an item where one is, and after each
 -- item's turn a moment
 abbrev pub MayTake : Talk → Step → Type 0
-MayTake t (Asks policy body) = (t.over ≡ false) × (t.behind ≡ false) × (refusal t.session body ≡ None)
-MayTake t (Hears item) = (t.over ≡ false) × (t.behind ≡ false) × IsOpen t.session.open_call
-MayTake t (Tells moment) = (t.over ≡ false) × (t.behind ≡ true)
+MayTake t (Asks policy body) = (t.over ≡ false) × (t.heard ≡ false) × (refusal t.session body ≡ None)
+MayTake t (Hears item) = (t.over ≡ false) × (t.heard ≡ false) × IsOpen t.session.open_call
+MayTake t (Tells moment) = (t.over ≡ false) × (t.heard ≡ true)
 
 -- each step may come where it does
 abbrev pub AreInTurn : Talk → List Step → Type 0

@@ -1,63 +1,50 @@
-ghost use Rattle.std.specs.Prelude.{◌≡◌, ◌≤◌, ℕ, List, Some, None, length, false};
+ghost use Rattle.std.specs.Prelude.{◌≡◌, ◌≤◌, ℕ, List, Some, None, length};
 ghost use Rattle.r2_link.specs.Faults.{NoneFalls, Rose, calm};
 ghost use Rattle.cmd_loop.specs.Ends.{Ends};
 ghost use Rattle.cmd_status.specs.Causes.{IsCaused};
 ghost use Rattle.cmd_client.specs.Calls.{Calls, IsCalled, RunsLines};
+ghost use Rattle.cmd_client.specs.Outside.{around};
 ghost use Rattle.cmd_client.specs.Script.{IsScript};
-ghost use Rattle.cmd_client.specs.Talk.{talk};
 
 use crate::Calling;
-use crate::line_run::run_line;
+use crate::caller::Caller;
 use cmd_lines::{LINE_LIMIT, LineReader};
-use cmd_loop::{Pace, Ticker};
+use cmd_loop::Pace;
 use cmd_status::Status;
-use hc_text::Policy;
-use r2_client::Session;
 use r2_link::{Clock, Link, Sink, Source};
 use std::alloc::Global;
 
-/// Makes the calls of a script, line by line.
-fn run_lines<S: Source, K: Sink, L: Link, C: Clock>(
-    alloc: Global,
-    session: &mut Session,
-    ticker: &mut Ticker,
-    room: &mut u64,
-    policy: Policy,
-    source: &mut S,
-    sink: &mut K,
-    link: &mut L,
-    clock: &mut C,
-) -> Status
-    requires none { session.old.open_call ≡ None }
-    requires fresh { session.old.next ≡ 0 }
-    requires tick { 1 ≤ ticker.old.tick_ms }
+impl Caller {
+    ghost use Rattle.cmd_client.specs.Caller.{talk_of};
 
-    ensures ran { (o : Ends) → RunsLines policy room.old (S.left source.old) (S.left source.new) (talk session.old ticker.old false)
-        (record o { written = K.written sink.old; link = L.told link.old; clock = C.left clock.old }) (record o { written = K.written sink.new; link = L.told link.new; clock = C.left clock.new }) result }
-    ensures caused { IsCaused (record calm { source = S.faults source.old; sink = K.faults sink.old; link = L.faults link.old; clock = C.faults clock.old }) (record calm { source = S.faults source.new; sink = K.faults sink.new; link = L.faults link.new; clock = C.faults clock.new }) result }
-    ensures steady { NoneFalls (record calm { source = S.faults source.old; sink = K.faults sink.old; link = L.faults link.old; clock = C.faults clock.old }) (record calm { source = S.faults source.new; sink = K.faults sink.new; link = L.faults link.new; clock = C.faults clock.new }) }
-{
-    let mut reader = LineReader::new(alloc, LINE_LIMIT);
-    'lines: loop {
-        let line = match reader.next_line(alloc, source) {
-            Ok(Some(line)) => line,
-            Ok(None) => return Status::Done,
-            Err(fault) => return fault.status(reader.lines() + 1),
-        };
-        let number = reader.lines();
-        if let Err(status) = run_line(
-            alloc,
-            session,
-            ticker,
-            room,
-            policy,
-            line.as_slice(),
-            number,
-            link,
-            clock,
-            sink,
-        ) {
-            return status;
+    /// Makes the calls of a script, line by line.
+    fn run_lines<S: Source, K: Sink, L: Link, C: Clock>(
+        &mut self,
+        alloc: Global,
+        source: &mut S,
+        sink: &mut K,
+        link: &mut L,
+        clock: &mut C,
+    ) -> Status
+        requires none { self.old.session.open_call ≡ None }
+        requires fresh { self.old.session.next ≡ 0 }
+
+        ensures ran { (o : Ends) → RunsLines self.old.policy self.old.room (S.left source.old) (S.left source.new) (talk_of self.old)
+            (around o (K.written sink.old) (L.told link.old) (C.left clock.old)) (around o (K.written sink.new) (L.told link.new) (C.left clock.new)) result }
+        ensures caused { IsCaused (record calm { source = S.faults source.old; sink = K.faults sink.old; link = L.faults link.old; clock = C.faults clock.old }) (record calm { source = S.faults source.new; sink = K.faults sink.new; link = L.faults link.new; clock = C.faults clock.new }) result }
+        ensures steady { NoneFalls (record calm { source = S.faults source.old; sink = K.faults sink.old; link = L.faults link.old; clock = C.faults clock.old }) (record calm { source = S.faults source.new; sink = K.faults sink.new; link = L.faults link.new; clock = C.faults clock.new }) }
+    {
+        let mut reader = LineReader::new(alloc, LINE_LIMIT);
+        'lines: loop {
+            let line = match reader.next_line(alloc, source) {
+                Ok(Some(line)) => line,
+                Ok(None) => return Status::Done,
+                Err(fault) => return fault.status(reader.lines() + 1),
+            };
+            let number = reader.lines();
+            if let Err(status) = self.run_line(alloc, line.as_slice(), number, link, clock, sink) {
+                return status;
+            }
         }
     }
 }
@@ -95,29 +82,6 @@ pub fn call_client<S: Source, K: Sink, L: Link, C: Clock>(
     let Ok(start) = clock.now() else {
         return Status::ClockFault;
     };
-    let mut ticker = Ticker {
-        start,
-        tick_ms: pace.tick_ms,
-        reached: 0,
-    };
-    let mut room = pace.turns;
-    let policy = calling.policy;
-    let mut session = Session::new(
-        alloc,
-        calling.listen,
-        calling.to,
-        calling.wait,
-        calling.tries,
-    );
-    run_lines(
-        alloc,
-        &mut session,
-        &mut ticker,
-        &mut room,
-        policy,
-        source,
-        sink,
-        link,
-        clock,
-    )
+    let mut client = Caller::new(alloc, calling, start, pace);
+    client.run_lines(alloc, source, sink, link, clock)
 }

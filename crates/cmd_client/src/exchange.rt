@@ -1,15 +1,16 @@
-ghost use Rattle.std.specs.Prelude.{◌≡◌, ◌≤◌, ℕ, List, [], ◌∷◌, None, length, IfErr, OnOk, false};
+ghost use Rattle.std.specs.Prelude.{◌≡◌, ◌≤◌, ℕ, [], ◌∷◌, None, length, IfErr, OnOk, false};
 ghost use Rattle.r2_base.specs.Limits.{most_body};
 ghost use Rattle.r2_header.specs.Policy.{replicated_read};
 ghost use Rattle.r2_link.specs.Faults.{NoneFalls, calm};
 ghost use Rattle.cmd_loop.specs.Ends.{Ends};
 ghost use Rattle.cmd_loop.specs.declared.ticker.Ticker.{Ticker as TickerSpec};
 ghost use Rattle.cmd_status.specs.Causes.{IsCaused};
+ghost use Rattle.cmd_client.specs.Outside.{around};
 ghost use Rattle.cmd_client.specs.Talk.{Asked, Asks, IsOpen, talk};
 ghost use Rattle.cmd_client.specs.Stops.{Completes, StopsCall, StopsTalk, Went};
 
-use crate::round::{ask_clock, hear_item};
-use cmd_loop::{Ticker, send_all};
+use crate::caller::Caller;
+use cmd_loop::send_all;
 use cmd_status::Status;
 use r2_client::{BeginFault, Session};
 use r2_link::{Clock, Link, Sink};
@@ -49,75 +50,71 @@ fn begin_call<L: Link>(
     }
 }
 
-/// Hears item after item, until the open call has ended or `room` more were received.
-fn converse<L: Link, K: Sink, C: Clock>(
-    alloc: Global,
-    session: &mut Session,
-    ticker: &mut Ticker,
-    room: &mut u64,
-    link: &mut L,
-    clock: &mut C,
-    sink: &mut K,
-) -> Result<(), Status>
-    requires opened { IsOpen session.old.open_call }
-    requires tick { 1 ≤ ticker.old.tick_ms }
+impl Caller {
+    ghost use Rattle.cmd_client.specs.Caller.{talk_of};
 
-    ensures done { OnOk result ((o : Ends) → Completes [] room.old room.new (talk session.old ticker.old false) (talk session.new ticker.new false)
-        (record o { written = K.written sink.old; link = L.told link.old; clock = C.left clock.old }) (record o { written = K.written sink.new; link = L.told link.new; clock = C.left clock.new })) }
-    ensures tick_ms { OnOk result (ticker.new.tick_ms ≡ ticker.old.tick_ms) }
+    /// Hears item after item, until the open call has ended or no more may be received.
+    fn converse<L: Link, K: Sink, C: Clock>(
+        &mut self,
+        alloc: Global,
+        link: &mut L,
+        clock: &mut C,
+        sink: &mut K,
+    ) -> Result<(), Status>
+        requires opened { IsOpen self.old.session.open_call }
 
-    ensures stops { IfErr result (λ status. (o : Ends) → StopsTalk [] room.old (talk session.old ticker.old false)
-        (record o { written = K.written sink.old; link = L.told link.old; clock = C.left clock.old }) (record o { written = K.written sink.new; link = L.told link.new; clock = C.left clock.new }) status) }
+        ensures done { OnOk result ((o : Ends) → Completes [] self.old.room self.new.room (talk_of self.old) (talk_of self.new)
+            (around o (K.written sink.old) (L.told link.old) (C.left clock.old)) (around o (K.written sink.new) (L.told link.new) (C.left clock.new))) }
+        ensures policy { OnOk result (self.new.policy ≡ self.old.policy) }
 
-    ensures caused { IfErr result (IsCaused (record calm { sink = K.faults sink.old; link = L.faults link.old; clock = C.faults clock.old }) (record calm { sink = K.faults sink.new; link = L.faults link.new; clock = C.faults clock.new })) }
-    ensures steady { NoneFalls (record calm { sink = K.faults sink.old; link = L.faults link.old; clock = C.faults clock.old }) (record calm { sink = K.faults sink.new; link = L.faults link.new; clock = C.faults clock.new }) }
-{
-    let wait_ms = u64::from(ticker.tick_ms);
-    'rounds: while *room > 0 {
-        *room -= 1;
-        let over = match hear_item(alloc, session, link, sink, wait_ms) {
-            Ok(over) => over,
-            Err(status) => return Err(status),
-        };
-        if let Err(status) = ask_clock(alloc, session, ticker, link, clock, sink) {
+        ensures stops { IfErr result (λ status. (o : Ends) → StopsTalk [] self.old.room (talk_of self.old)
+            (around o (K.written sink.old) (L.told link.old) (C.left clock.old)) (around o (K.written sink.new) (L.told link.new) (C.left clock.new)) status) }
+
+        ensures caused { IfErr result (IsCaused (record calm { sink = K.faults sink.old; link = L.faults link.old; clock = C.faults clock.old }) (record calm { sink = K.faults sink.new; link = L.faults link.new; clock = C.faults clock.new })) }
+        ensures steady { NoneFalls (record calm { sink = K.faults sink.old; link = L.faults link.old; clock = C.faults clock.old }) (record calm { sink = K.faults sink.new; link = L.faults link.new; clock = C.faults clock.new }) }
+    {
+        'rounds: while self.room > 0 {
+            let over = match self.hear_item(alloc, link, sink) {
+                Ok(over) => over,
+                Err(status) => return Err(status),
+            };
+            if let Err(status) = self.ask_clock(alloc, link, clock, sink) {
+                return Err(status);
+            }
+            if over {
+                return Ok(());
+            }
+        }
+        Err(Status::TurnsSpent)
+    }
+
+    /// Makes a call from its beginning to its end.
+    pub(crate) fn make_call<L: Link, K: Sink, C: Clock>(
+        &mut self,
+        alloc: Global,
+        policy: u8,
+        body: &[u8],
+        link: &mut L,
+        clock: &mut C,
+        sink: &mut K,
+    ) -> Result<(), Status>
+        requires none { self.old.session.open_call ≡ None }
+        requires policy { policy ≤ replicated_read }
+        requires short { length body.now ≤ most_body }
+
+        ensures done { OnOk result ((o : Ends) → Completes (record { policy = policy; body = body.now } ∷ []) self.old.room self.new.room (talk_of self.old) (talk_of self.new)
+            (around o (K.written sink.old) (L.told link.old) (C.left clock.old)) (around o (K.written sink.new) (L.told link.new) (C.left clock.new))) }
+        ensures policy { OnOk result (self.new.policy ≡ self.old.policy) }
+
+        ensures stops { IfErr result (λ status. (o : Ends) → StopsCall (record { policy = policy; body = body.now }) self.old.room (talk_of self.old)
+            (around o (K.written sink.old) (L.told link.old) (C.left clock.old)) (around o (K.written sink.new) (L.told link.new) (C.left clock.new)) status) }
+
+        ensures caused { IfErr result (IsCaused (record calm { sink = K.faults sink.old; link = L.faults link.old; clock = C.faults clock.old }) (record calm { sink = K.faults sink.new; link = L.faults link.new; clock = C.faults clock.new })) }
+        ensures steady { NoneFalls (record calm { sink = K.faults sink.old; link = L.faults link.old; clock = C.faults clock.old }) (record calm { sink = K.faults sink.new; link = L.faults link.new; clock = C.faults clock.new }) }
+    {
+        if let Err(status) = begin_call(&mut self.session, policy, body, link) {
             return Err(status);
         }
-        if over {
-            return Ok(());
-        }
+        self.converse(alloc, link, clock, sink)
     }
-    Err(Status::TurnsSpent)
-}
-
-/// Makes a call from its beginning to its end.
-pub(crate) fn make_call<L: Link, K: Sink, C: Clock>(
-    alloc: Global,
-    session: &mut Session,
-    ticker: &mut Ticker,
-    room: &mut u64,
-    policy: u8,
-    body: &[u8],
-    link: &mut L,
-    clock: &mut C,
-    sink: &mut K,
-) -> Result<(), Status>
-    requires none { session.old.open_call ≡ None }
-    requires policy { policy ≤ replicated_read }
-    requires short { length body.now ≤ most_body }
-    requires tick { 1 ≤ ticker.old.tick_ms }
-
-    ensures done { OnOk result ((o : Ends) → Completes (record { policy = policy; body = body.now } ∷ []) room.old room.new (talk session.old ticker.old false) (talk session.new ticker.new false)
-        (record o { written = K.written sink.old; link = L.told link.old; clock = C.left clock.old }) (record o { written = K.written sink.new; link = L.told link.new; clock = C.left clock.new })) }
-    ensures tick_ms { OnOk result (ticker.new.tick_ms ≡ ticker.old.tick_ms) }
-
-    ensures stops { IfErr result (λ status. (o : Ends) → StopsCall (record { policy = policy; body = body.now }) room.old (talk session.old ticker.old false)
-        (record o { written = K.written sink.old; link = L.told link.old; clock = C.left clock.old }) (record o { written = K.written sink.new; link = L.told link.new; clock = C.left clock.new }) status) }
-
-    ensures caused { IfErr result (IsCaused (record calm { sink = K.faults sink.old; link = L.faults link.old; clock = C.faults clock.old }) (record calm { sink = K.faults sink.new; link = L.faults link.new; clock = C.faults clock.new })) }
-    ensures steady { NoneFalls (record calm { sink = K.faults sink.old; link = L.faults link.old; clock = C.faults clock.old }) (record calm { sink = K.faults sink.new; link = L.faults link.new; clock = C.faults clock.new }) }
-{
-    if let Err(status) = begin_call(session, policy, body, link) {
-        return Err(status);
-    }
-    converse(alloc, session, ticker, room, link, clock, sink)
 }

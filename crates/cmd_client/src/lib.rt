@@ -1,6 +1,7 @@
 //! The client's command: it makes the calls of a script, one after another, over a link.
 #![tactic(auto)]
 
+mod caller;
 mod calling;
 mod client;
 mod exchange;

@@ -1,64 +1,52 @@
-ghost use Rattle.std.specs.Prelude.{◌≡◌, ◌≤◌, ℕ, List, None, length, false, IfErr, OnOk};
+ghost use Rattle.std.specs.Prelude.{◌≡◌, ◌≤◌, None, length, IfErr, OnOk};
 ghost use Rattle.r2_link.specs.Faults.{NoneFalls, calm};
 ghost use Rattle.cmd_lines.specs.Limits.{most_line};
 ghost use Rattle.cmd_loop.specs.Ends.{Ends};
 ghost use Rattle.cmd_status.specs.Causes.{IsCaused};
 ghost use Rattle.cmd_client.specs.Lines.{MakesLine, StopsLine};
-ghost use Rattle.cmd_client.specs.Talk.{talk};
+ghost use Rattle.cmd_client.specs.Outside.{around};
 
-use crate::exchange::make_call;
-use cmd_loop::Ticker;
+use crate::caller::Caller;
 use cmd_status::Status;
-use hc_text::{Policy, TextFault, client_line, policy_of};
-use r2_client::Session;
+use hc_text::{TextFault, client_line, policy_of};
 use r2_link::{Clock, Link, Sink};
 use std::alloc::Global;
 
-/// Makes the call of a line, the one with this number. An empty line asks for nothing.
-pub(crate) fn run_line<L: Link, K: Sink, C: Clock>(
-    alloc: Global,
-    session: &mut Session,
-    ticker: &mut Ticker,
-    room: &mut u64,
-    policy: Policy,
-    line: &[u8],
-    number: u64,
-    link: &mut L,
-    clock: &mut C,
-    sink: &mut K,
-) -> Result<(), Status>
-    requires none { session.old.open_call ≡ None }
-    requires short { length line.now ≤ most_line }
-    requires tick { 1 ≤ ticker.old.tick_ms }
+impl Caller {
+    ghost use Rattle.cmd_client.specs.Caller.{talk_of};
 
-    ensures made { OnOk result ((o : Ends) → MakesLine policy line.now room.old room.new (talk session.old ticker.old false) (talk session.new ticker.new false)
-        (record o { written = K.written sink.old; link = L.told link.old; clock = C.left clock.old }) (record o { written = K.written sink.new; link = L.told link.new; clock = C.left clock.new })) }
-    ensures tick_ms { OnOk result (ticker.new.tick_ms ≡ ticker.old.tick_ms) }
+    /// Makes the call of a line, the one with this number. An empty line asks for nothing.
+    pub(crate) fn run_line<L: Link, K: Sink, C: Clock>(
+        &mut self,
+        alloc: Global,
+        line: &[u8],
+        number: u64,
+        link: &mut L,
+        clock: &mut C,
+        sink: &mut K,
+    ) -> Result<(), Status>
+        requires none { self.old.session.open_call ≡ None }
+        requires short { length line.now ≤ most_line }
 
-    ensures stops { IfErr result (λ status. (o : Ends) → StopsLine policy line.now number room.old (talk session.old ticker.old false)
-        (record o { written = K.written sink.old; link = L.told link.old; clock = C.left clock.old }) (record o { written = K.written sink.new; link = L.told link.new; clock = C.left clock.new }) status) }
+        ensures made { OnOk result ((o : Ends) → MakesLine self.old.policy line.now self.old.room self.new.room (talk_of self.old) (talk_of self.new)
+            (around o (K.written sink.old) (L.told link.old) (C.left clock.old)) (around o (K.written sink.new) (L.told link.new) (C.left clock.new))) }
+        ensures policy { OnOk result (self.new.policy ≡ self.old.policy) }
 
-    ensures caused { IfErr result (IsCaused (record calm { sink = K.faults sink.old; link = L.faults link.old; clock = C.faults clock.old }) (record calm { sink = K.faults sink.new; link = L.faults link.new; clock = C.faults clock.new })) }
-    ensures steady { NoneFalls (record calm { sink = K.faults sink.old; link = L.faults link.old; clock = C.faults clock.old }) (record calm { sink = K.faults sink.new; link = L.faults link.new; clock = C.faults clock.new }) }
-{
-    if line.is_empty() {
-        return Ok(());
+        ensures stops { IfErr result (λ status. (o : Ends) → StopsLine self.old.policy line.now number self.old.room (talk_of self.old)
+            (around o (K.written sink.old) (L.told link.old) (C.left clock.old)) (around o (K.written sink.new) (L.told link.new) (C.left clock.new)) status) }
+
+        ensures caused { IfErr result (IsCaused (record calm { sink = K.faults sink.old; link = L.faults link.old; clock = C.faults clock.old }) (record calm { sink = K.faults sink.new; link = L.faults link.new; clock = C.faults clock.new })) }
+        ensures steady { NoneFalls (record calm { sink = K.faults sink.old; link = L.faults link.old; clock = C.faults clock.old }) (record calm { sink = K.faults sink.new; link = L.faults link.new; clock = C.faults clock.new }) }
+    {
+        if line.is_empty() {
+            return Ok(());
+        }
+        let call = match client_line(alloc, line) {
+            Ok(call) => call,
+            Err(TextFault::Outside) => return Err(Status::BadScript { line: number }),
+            Err(TextFault::Memory) => return Err(Status::Memory),
+        };
+        let policy = policy_of(self.policy, call.read);
+        self.make_call(alloc, policy, call.body.as_slice(), link, clock, sink)
     }
-    let call = match client_line(alloc, line) {
-        Ok(call) => call,
-        Err(TextFault::Outside) => return Err(Status::BadScript { line: number }),
-        Err(TextFault::Memory) => return Err(Status::Memory),
-    };
-    let policy = policy_of(policy, call.read);
-    make_call(
-        alloc,
-        session,
-        ticker,
-        room,
-        policy,
-        call.body.as_slice(),
-        link,
-        clock,
-        sink,
-    )
 }

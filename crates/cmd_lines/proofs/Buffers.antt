@@ -4,13 +4,13 @@ use Rattle.std.proofs.lemmas.List.{take-take, take-append-le, take_rest}
 use Rattle.std.proofs.Math.Seq.{take-append-add, take-append_seam}
 
 -- the first bytes of a piece, after those that were there before room was made for it
-pub behind_old : (v old zeros into post extra : List ℕ) (len : ℕ) (n count : ℕ) → v ≡ old ++ zeros → len ≡ length old → len + count ≤ n → count ≤ length into
+pub after_old : (v old zeros into post extra : List ℕ) (len : ℕ) (n count : ℕ) → v ≡ old ++ zeros → len ≡ length old → len + count ≤ n → count ≤ length into
     → take (len + count) (take n ((take len v ++ (into ++ post)) ++ extra)) ≡ old ++ take count into
-behind_old v old zeros into post extra len n count wide is inside within =
+after_old v old zeros into post extra len n count wide is inside within =
     take-take (len + count) n ((take len v ++ (into ++ post)) ++ extra) inside
     ∙ ap (λ (w : List ℕ). take (len + count) ((take len w ++ (into ++ post)) ++ extra)) wide
     ∙ ap (λ (m : ℕ). take (m + count) ((take m (old ++ zeros) ++ (into ++ post)) ++ extra)) is
-    ∙ ap (λ (front : List ℕ). take (length old + count) ((front ++ (into ++ post)) ++ extra)) (take-append_seam old zeros)
+    ∙ ap (λ (prefix : List ℕ). take (length old + count) ((prefix ++ (into ++ post)) ++ extra)) (take-append_seam old zeros)
     ∙ ap (λ (all : List ℕ). take (length old + count) all) (append_assoc old (into ++ post) extra ∙ ap (λ (l : List ℕ). old ++ l) (append_assoc into post extra))
     ∙ take-append-add old (into ++ (post ++ extra)) count
     ∙ ap (λ (l : List ℕ). old ++ l) (take-append-le count into (post ++ extra) within)

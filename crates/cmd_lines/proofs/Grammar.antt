@@ -12,7 +12,7 @@ NoEnd text = All (λ b. b ≢ 10) text
 
 -- the text has a line's end after it, or is too long
 abbrev Ends : ℕ → List ℕ → List ℕ → Type 0
-Ends longest text behind = ((more : List ℕ) × (behind ≡ 10 ∷ more)) ⊎ (longest < length text)
+Ends longest text after = ((more : List ℕ) × (after ≡ 10 ∷ more)) ⊎ (longest < length text)
 
 -- the text is a line's
 abbrev IsLineText : {A : Type 0} → ℕ → (List ℕ → A → Type 0) → List ℕ → Type 0
@@ -24,15 +24,15 @@ line_of longest Says text bad same short (inl empty) nonempty = absurd (nonempty
 line_of longest Says text bad same short (inr said) nonempty = subst (IsLineText longest Says) same (short, said)
 
 -- a piece that ends where the first text does is that text
-first_is : {A : Type 0} (longest : ℕ) (Says : List ℕ → A → Type 0) (text bad more behind : List ℕ) → IsScriptText longest Says text → text ++ 10 ∷ more ≡ bad ++ behind → NoEnd bad → bad ≢ [] → Ends longest bad behind → IsLineText longest Says bad
-first_is longest Says text bad more behind is same one_line nonempty (inl end) =
+first_is : {A : Type 0} (longest : ℕ) (Says : List ℕ → A → Type 0) (text bad more after : List ℕ) → IsScriptText longest Says text → text ++ 10 ∷ more ≡ bad ++ after → NoEnd bad → bad ≢ [] → Ends longest bad after → IsLineText longest Says bad
+first_is longest Says text bad more after is same one_line nonempty (inl end) =
     let short = is.short in
     let cut = same_cut text bad more end.0 short.one_line one_line (same ∙ ap (λ x. bad ++ x) end.1) in
     line_of longest Says text bad cut.0 is.short is.said nonempty
-first_is longest Says text bad more behind is same one_line nonempty (inr long) =
+first_is longest Says text bad more after is same one_line nonempty (inr long) =
     let short = is.short in
     let few = short.short in
-    let below = no_longer text bad more behind one_line same in
+    let below = no_longer text bad more after one_line same in
     absurd (omega (arith, few, below, long))
 
 first_nil : (x y : List ℕ) → x ++ y ≡ [] → x ≡ []
@@ -44,21 +44,21 @@ never_nil [] y z e = cc
 never_nil (b ∷ x) y z e = cc
 
 -- a piece that begins and ends where a text does is one of the texts
-one_among : {A : Type 0} (longest : ℕ) (Says : List ℕ → A → Type 0) (known texts : List (List ℕ)) (bad behind : List ℕ) → All (IsScriptText longest Says) known → All (IsText longest) texts → fed known ≡ fed texts ++ (bad ++ behind)
-    → NoEnd bad → bad ≢ [] → Ends longest bad behind → IsLineText longest Says bad
-one_among longest Says [] [] bad behind each at same one_line nonempty ends =
-    absurd (nonempty (first_nil bad behind (sym (ap (λ x. x ++ (bad ++ behind)) fed-none) ∙ sym same ∙ fed-none)))
-one_among longest Says [] (x ∷ texts) bad behind each at same one_line nonempty ends =
-    absurd (never_nil x (fed texts) (bad ++ behind) (sym (ap (λ y. y ++ (bad ++ behind)) (fed-cons x texts)) ∙ sym same ∙ fed-none))
-one_among longest Says (t ∷ known) [] bad behind each at same one_line nonempty ends =
-    let joined = sym (fed-cons t known) ∙ same ∙ ap (λ x. x ++ (bad ++ behind)) fed-none in
-    first_is longest Says t bad (fed known) behind (All-head (IsScriptText longest Says) t known each) joined one_line nonempty ends
-one_among longest Says (t ∷ known) (x ∷ texts) bad behind each at same one_line nonempty ends =
+one_among : {A : Type 0} (longest : ℕ) (Says : List ℕ → A → Type 0) (known texts : List (List ℕ)) (bad after : List ℕ) → All (IsScriptText longest Says) known → All (IsText longest) texts → fed known ≡ fed texts ++ (bad ++ after)
+    → NoEnd bad → bad ≢ [] → Ends longest bad after → IsLineText longest Says bad
+one_among longest Says [] [] bad after each at same one_line nonempty ends =
+    absurd (nonempty (first_nil bad after (sym (ap (λ x. x ++ (bad ++ after)) fed-none) ∙ sym same ∙ fed-none)))
+one_among longest Says [] (x ∷ texts) bad after each at same one_line nonempty ends =
+    absurd (never_nil x (fed texts) (bad ++ after) (sym (ap (λ y. y ++ (bad ++ after)) (fed-cons x texts)) ∙ sym same ∙ fed-none))
+one_among longest Says (t ∷ known) [] bad after each at same one_line nonempty ends =
+    let joined = sym (fed-cons t known) ∙ same ∙ ap (λ x. x ++ (bad ++ after)) fed-none in
+    first_is longest Says t bad (fed known) after (All-head (IsScriptText longest Says) t known each) joined one_line nonempty ends
+one_among longest Says (t ∷ known) (x ∷ texts) bad after each at same one_line nonempty ends =
     let is = (All-head (IsScriptText longest Says) t known each).short in
     let other = All-head (IsText longest) x texts at in
-    let joined = sym (fed-cons t known) ∙ same ∙ ap (λ y. y ++ (bad ++ behind)) (fed-cons x texts) ∙ append_assoc x (10 ∷ fed texts) (bad ++ behind) in
-    let cut = same_cut t x (fed known) (fed texts ++ (bad ++ behind)) is.one_line other.one_line joined in
-    one_among longest Says known texts bad behind (All-tail (IsScriptText longest Says) t known each) (All-tail (IsText longest) x texts at) cut.1 one_line nonempty ends
+    let joined = sym (fed-cons t known) ∙ same ∙ ap (λ y. y ++ (bad ++ after)) (fed-cons x texts) ∙ append_assoc x (10 ∷ fed texts) (bad ++ after) in
+    let cut = same_cut t x (fed known) (fed texts ++ (bad ++ after)) is.one_line other.one_line joined in
+    one_among longest Says known texts bad after (All-tail (IsScriptText longest Says) t known each) (All-tail (IsText longest) x texts at) cut.1 one_line nonempty ends
 
 -- a line is known to be whole: by its end, by the end of the script, or by its length
 abbrev IsKnownEnd : ℕ → Option (List ℕ) → List ℕ → List ℕ → Type 0
@@ -69,18 +69,18 @@ at_end : (left : Option (List ℕ)) (more : List ℕ) → left ≡ Some more →
 at_end left more is ended = subst IsAtEnd is ended
 
 -- where a script is cut at a line's end or at its own, an end of a line follows, once its last text has one too
-end_behind : (longest : ℕ) (left : Option (List ℕ)) (more bad rest : List ℕ) → left ≡ Some more → IsKnownEnd longest left bad rest → Ends longest bad ((rest ++ more) ++ 10 ∷ [])
-end_behind longest left more bad [] is (inl ended) = inl ([], ap (λ x. x ++ 10 ∷ []) (at_end left more is ended))
-end_behind longest left more bad [] is (inr long) = inr long
-end_behind longest left more bad (b ∷ rest) is (inl end) = inl ((rest ++ more) ++ 10 ∷ [], ap (λ x. x ∷ ((rest ++ more) ++ 10 ∷ [])) end)
-end_behind longest left more bad (b ∷ rest) is (inr long) = inr long
+end_after : (longest : ℕ) (left : Option (List ℕ)) (more bad rest : List ℕ) → left ≡ Some more → IsKnownEnd longest left bad rest → Ends longest bad ((rest ++ more) ++ 10 ∷ [])
+end_after longest left more bad [] is (inl ended) = inl ([], ap (λ x. x ++ 10 ∷ []) (at_end left more is ended))
+end_after longest left more bad [] is (inr long) = inr long
+end_after longest left more bad (b ∷ rest) is (inl end) = inl ((rest ++ more) ++ 10 ∷ [], ap (λ x. x ∷ ((rest ++ more) ++ 10 ∷ [])) end)
+end_after longest left more bad (b ∷ rest) is (inr long) = inr long
 
 -- what was taken and what is left, and then an end of a line
-joined : (script taken more front bad rest : List ℕ) → script ≡ taken ++ more → taken ≡ front ++ bad ++ rest → script ++ 10 ∷ [] ≡ front ++ (bad ++ ((rest ++ more) ++ 10 ∷ []))
-joined script taken more front bad rest took split =
-    ap (λ x. x ++ 10 ∷ []) (took ∙ ap (λ x. x ++ more) split ∙ append_assoc (front ++ bad) rest more)
-    ∙ append_assoc (front ++ bad) (rest ++ more) (10 ∷ [])
-    ∙ append_assoc front bad ((rest ++ more) ++ 10 ∷ [])
+joined : (script taken more prefix bad rest : List ℕ) → script ≡ taken ++ more → taken ≡ prefix ++ bad ++ rest → script ++ 10 ∷ [] ≡ prefix ++ (bad ++ ((rest ++ more) ++ 10 ∷ []))
+joined script taken more prefix bad rest took split =
+    ap (λ x. x ++ 10 ∷ []) (took ∙ ap (λ x. x ++ more) split ∙ append_assoc (prefix ++ bad) rest more)
+    ∙ append_assoc (prefix ++ bad) (rest ++ more) (10 ∷ [])
+    ∙ append_assoc prefix bad ((rest ++ more) ++ 10 ∷ [])
 
 -- in a script in its grammar, a text that isn't empty is a line's
 pub line_there : {A : Type 0} (longest : ℕ) (Says : List ℕ → A → Type 0) (script taken : List ℕ) (left' : Option (List ℕ)) (texts : List (List ℕ)) (bad rest : List ℕ)
@@ -92,7 +92,7 @@ line_there longest Says script taken None texts bad rest is took each split one_
 line_there longest Says script taken (Some more) texts bad rest is took each split one_line nonempty ends =
     let whole = ap (λ x. x ++ 10 ∷ []) is.split ∙ fed-last is.texts is.last in
     let same = sym whole ∙ joined script taken more (fed texts) bad rest took split in
-    one_among longest Says (is.texts ++ is.last ∷ []) texts bad ((rest ++ more) ++ 10 ∷ []) is.each each same one_line nonempty (end_behind longest (Some more) more bad rest refl ends)
+    one_among longest Says (is.texts ++ is.last ∷ []) texts bad ((rest ++ more) ++ 10 ∷ []) is.each each same one_line nonempty (end_after longest (Some more) more bad rest refl ends)
 
 next_end : (longest : ℕ) (left : Option (List ℕ)) (line rest : List ℕ) → IsLineEnd left rest → IsKnownEnd longest left line rest
 next_end longest left line [] ended = inl ended
@@ -119,11 +119,11 @@ long_end longest left bad (b ∷ rest) long = inr (omega (arith, long))
 none_long : {A : Type 0} (longest : ℕ) (Says : List ℕ → A → Type 0) (script taken : List ℕ) (left' : Option (List ℕ)) (items : List A) (number : ℕ)
     → IsScript longest Says script → Consumes (Some script) left' taken → IsTooLong longest Says taken items number → ⊥
 none_long longest Says script taken left' items number is took long =
-    let front = long.front in
+    let prefix = long.prefix in
     let bad = long.long.bad in
     let rest = long.long.rest in
-    let split = front.split ∙ ap (λ (l : List ℕ). fed front.texts ++ l) long.long.split ∙ sym (append_assoc (fed front.texts) bad rest) in
-    let there = line_there longest Says script taken left' front.texts bad rest is took front.each split long.long.one_line (some_long longest bad rest long.long.long) (long_end longest left' bad rest long.long.long) in
+    let split = prefix.split ∙ ap (λ (l : List ℕ). fed prefix.texts ++ l) long.long.split ∙ sym (append_assoc (fed prefix.texts) bad rest) in
+    let there = line_there longest Says script taken left' prefix.texts bad rest is took prefix.each split long.long.one_line (some_long longest bad rest long.long.long) (long_end longest left' bad rest long.long.long) in
     absurd (omega (arith, there.0.short, long.long.long))
 
 -- a script in its grammar has no line outside it

@@ -1,6 +1,6 @@
 pub mod Buffers
 pub mod Cuts
-pub mod Fronts
+pub mod FirstLines
 pub mod Grammar
 pub mod Orders
 pub mod Places

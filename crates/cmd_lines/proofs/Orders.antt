@@ -7,7 +7,7 @@ use Rattle.cmd_lines.specs.Texts.{IsText}
 use Rattle.cmd_lines.specs.Reader.{ReaderState, Holds, Answers, KnowsEnd}
 use Rattle.cmd_lines.specs.Laws.{AreToCome, GivesNext, GivesRest, NextLineIsGiven, LastLineIsGiven}
 use Rattle.cmd_lines.proofs.Cuts.{same_cut, no_longer}
-use Rattle.cmd_lines.proofs.Fronts.{has_end}
+use Rattle.cmd_lines.proofs.FirstLines.{has_end}
 
 -- the bytes to come, where a call has taken some of them
 record Split (s : ReaderState) (left' : Option (List ℕ)) (taken bytes : List ℕ) : Type 0 where

@@ -12,7 +12,7 @@ use Rattle.cmd_lines.specs.Faults.{status_of}
 use Rattle.cmd_lines.specs.Texts.{IsText, fed}
 use Rattle.cmd_lines.specs.Reader.{AreNeeded, GivesLast, GivesLine, HasLongLine, KnowsEnd, ReaderState, ReadsLine}
 use Rattle.cmd_lines.specs.Reading.{HasGiven, IsNeeded}
-use Rattle.cmd_lines.specs.Script.{EndsBetween, IsFront, IsNext, IsWhole, Say}
+use Rattle.cmd_lines.specs.Script.{EndsBetween, IsPrefix, IsNext, IsWhole, Say}
 use Rattle.cmd_lines.proofs.Texts.{fed-push}
 use Rattle.cmd_lines.proofs.Reading.{HasGiven-end, HasGiven-held, HasGiven-last, HasGiven-line, HasGiven-none, IsNeeded-more, IsNeeded-none, IsNeeded-run}
 
@@ -183,10 +183,10 @@ none-read longest Says left b left' s r taken items (inr over) read knows = reco
   ends = whole-over longest Says left b left' s taken items over (knows read.did.ended);
 }
 
-abbrev front-held : {A : Type 0} (longest : ℕ) (Says : List ℕ → A → Type 0) (left b left' : Option (List ℕ)) (s r : ReaderState) (taken more : List ℕ) (items : List A)
+abbrev prefix-held : {A : Type 0} (longest : ℕ) (Says : List ℕ → A → Type 0) (left b left' : Option (List ℕ)) (s r : ReaderState) (taken more : List ℕ) (items : List A)
     → (mid : IsMid longest Says left b s taken items) → (more ≡ []) ⊎ AreNeeded s more → HasGiven (fresh longest) r left left' (taken ++ more) mid.texts
-    → IsFront longest Says (taken ++ more) items
-front-held longest Says left b left' s r taken more items mid needs given = record {
+    → IsPrefix longest Says (taken ++ more) items
+prefix-held longest Says left b left' s r taken more items mid needs given = record {
   texts = mid.texts;
   rest = r.pending;
   each = given.each;
@@ -204,20 +204,20 @@ fault-mid longest Says left b left' s r taken items Source number mid read is =
       taken = taken ++ read.taken;
       took = given.took;
       ends = record {
-        front = front-held longest Says left b left' s r taken read.taken items mid read.needed given;
+        prefix = prefix-held longest Says left b left' s r taken read.taken items mid read.needed given;
         unfinished = subst (λ (n : ℕ). IsText n r.pending) mid.given.limit read.did.unfinished;
       };
     }
 fault-mid longest Says left b left' s r taken items Memory number mid read is =
     let given = HasGiven-held (fresh longest) s r left b left' taken read.taken mid.texts mid.given read.took read.counted read.limit read.did in
-    record { taken = taken ++ read.taken; took = given.took; ends = inl (front-held longest Says left b left' s r taken read.taken items mid read.needed given) }
+    record { taken = taken ++ read.taken; took = given.took; ends = inl (prefix-held longest Says left b left' s r taken read.taken items mid read.needed given) }
 fault-mid longest Says left b left' s r taken items TooLong number mid read is =
     let given = HasGiven-held (fresh longest) s r left b left' taken read.taken mid.texts mid.given read.took read.counted read.limit read.did.0 in
     record {
       taken = taken ++ read.taken;
       took = given.took;
       ends = inr (record {
-        front = front-held longest Says left b left' s r taken read.taken items mid read.needed given;
+        prefix = prefix-held longest Says left b left' s r taken read.taken items mid read.needed given;
         long = subst (λ (n : ℕ). HasLongLine n r.pending) mid.given.limit read.did.1;
         counted = omega (arith, is, given.lines);
       });
@@ -229,7 +229,7 @@ fault-mid longest Says left b left' s r taken items Limit number mid read is =
       took = given.took;
       ends = (
         record {
-          front = front-held longest Says left b left' s r taken read.taken items mid read.needed given;
+          prefix = prefix-held longest Says left b left' s r taken read.taken items mid read.needed given;
           unfinished = subst (λ (n : ℕ). IsText n r.pending) mid.given.limit read.did.0.unfinished;
         },
         omega (arith, given.counted, read.did.1),
@@ -273,22 +273,22 @@ fault-read longest Says left b left' s r taken items fault number (inr over) rea
 split-at : (taken pending line : List ℕ) (texts : List (List ℕ)) → taken ≡ fed (texts ++ line ∷ []) ++ pending → taken ≡ fed texts ++ (line ++ 10 ∷ pending)
 split-at taken pending line texts is = is ∙ fed-push texts line pending
 
-All-front : (longest : ℕ) (xs : List (List ℕ)) (x : List ℕ) → All (IsText longest) (xs ++ x ∷ []) → All (IsText longest) xs
-All-front longest xs x each = (All-pop (IsText longest) (xs ++ x ∷ []) xs (Some x) refl each).0
+All-prefix : (longest : ℕ) (xs : List (List ℕ)) (x : List ℕ) → All (IsText longest) (xs ++ x ∷ []) → All (IsText longest) xs
+All-prefix longest xs x each = (All-pop (IsText longest) (xs ++ x ∷ []) xs (Some x) refl each).0
 
 -- the lines before it were run
-pub front-before : {A : Type 0} (longest : ℕ) (Says : List ℕ → A → Type 0) (left left' : Option (List ℕ)) (r : ReaderState) (taken : List ℕ) (items : List A) (line : List ℕ)
-    → LinePlace longest Says left left' r taken items line → IsFront longest Says taken items
-front-before longest Says left left' r taken items line (inl read) = record {
+pub prefix-before : {A : Type 0} (longest : ℕ) (Says : List ℕ → A → Type 0) (left left' : Option (List ℕ)) (r : ReaderState) (taken : List ℕ) (items : List A) (line : List ℕ)
+    → LinePlace longest Says left left' r taken items line → IsPrefix longest Says taken items
+prefix-before longest Says left left' r taken items line (inl read) = record {
   texts = read.texts;
   rest = line ++ 10 ∷ r.pending;
-  each = All-front longest read.texts line read.given.each;
+  each = All-prefix longest read.texts line read.given.each;
   said = read.said;
   split = split-at taken r.pending line read.texts read.given.split;
   needed = read.needed;
 }
-front-before longest Says left left' r taken items line (inr last) =
-    record { texts = last.texts; rest = line; each = All-front longest last.texts line last.each; said = last.said; split = last.split; needed = last.needed }
+prefix-before longest Says left left' r taken items line (inr last) =
+    record { texts = last.texts; rest = line; each = All-prefix longest last.texts line last.each; said = last.said; split = last.split; needed = last.needed }
 
 -- it comes next
 pub next-of : {A : Type 0} (longest : ℕ) (Says : List ℕ → A → Type 0) (left left' : Option (List ℕ)) (r : ReaderState) (taken : List ℕ) (items : List A) (line : List ℕ) (number : ℕ)

@@ -5,27 +5,27 @@ use Rattle.std.proofs.lemmas.List.Elements.{All-drop}
 use Rattle.cmd_lines.specs.Texts.{IsText}
 use Rattle.cmd_lines.specs.declared.line_fault.LineFault.{LineFault}
 use Rattle.cmd_lines.specs.declared.line_fault.LineFault.TheVariants.{Source, Memory, TooLong, Limit}
-use Rattle.cmd_lines.specs.Fronts.{IsLineLen}
+use Rattle.cmd_lines.specs.FirstLines.{IsLineLen}
 use Rattle.cmd_lines.specs.Reader.{ReaderState, HasKnownLine, HasLongLine, Holds, HoldsPart, AreNeeded, Answers}
 use Rattle.cmd_lines.specs.Steps.{IsSound}
 use Rattle.std.specs.Io.KnownBytes.{Consumes}
-use Rattle.cmd_lines.proofs.Fronts.{known_is_no_part}
+use Rattle.cmd_lines.proofs.FirstLines.{known_is_no_part}
 
 -- a text without its first bytes is one
-pub text_behind : (longest : ℕ) (text : List ℕ) (n : ℕ) → IsText longest text → IsText longest (drop n text)
-text_behind longest text n is = record {
+pub text_after : (longest : ℕ) (text : List ℕ) (n : ℕ) → IsText longest text → IsText longest (drop n text)
+text_after longest text n is = record {
   one_line = All-drop (λ b. b ≢ 10) n text is.one_line;
   short = omega (arith, length-drop n text, is.short);
 }
 
 -- a reader stays sound where bytes are let go for one line more
-pub sound_behind : (buffer : List ℕ) (start gone taken lines longest : ℕ) (ended : Bool)
+pub sound_after : (buffer : List ℕ) (start gone taken lines longest : ℕ) (ended : Bool)
     → IsSound (record { pending = drop start buffer; taken = taken; lines = lines; ended = ended; longest = longest }) → 0 < gone → gone ≤ length (drop start buffer)
     → IsSound (record { pending = drop (start + gone) buffer; taken = taken; lines = lines + 1; ended = ended; longest = longest })
-sound_behind buffer start gone taken lines longest ended before some within = record {
+sound_after buffer start gone taken lines longest ended before some within = record {
   few = omega (arith, before.few, length-drop start buffer, length-drop (start + gone) buffer);
   most = before.most;
-  last = λ end. subst (IsText longest) (drop-drop gone start buffer) (text_behind longest (drop start buffer) gone (before.last end));
+  last = λ end. subst (IsText longest) (drop-drop gone start buffer) (text_after longest (drop start buffer) gone (before.last end));
 }
 
 -- a reader that let its first bytes go, for a line that it handed out
@@ -36,19 +36,19 @@ given s gone = record s { pending = drop gone s.pending; lines = s.lines + 1 }
 pub answers_line : (s u : ReaderState) (len : ℕ) (answer : Result (Option (List ℕ)) LineFault) → IsLineLen s.longest s.pending len → s.ended ≡ false
     → IfOk answer (λ line. line ≡ Some (take len s.pending)) → OnOk answer (u ≡ given s (len + 1)) → OnErr answer (u ≡ s) → IfErr answer (λ fault. fault ≡ Memory)
     → Answers s u [] answer
-answers_line s u len (Ok (Some line)) front unended is new kept fault =
+answers_line s u len (Ok (Some line)) begins unended is new kept fault =
     let same : line ≡ take len s.pending = cc in
     inl (record {
-      text = subst (IsText s.longest) (sym same) front.text;
-      split = append-nil s.pending ∙ front.split ∙ ap (λ (l : List ℕ). l ++ 10 ∷ drop (len + 1) s.pending) (sym same) ∙ ap (λ (l : List ℕ). line ++ 10 ∷ l) (sym (ap (λ (r : ReaderState). r.pending) new));
+      text = subst (IsText s.longest) (sym same) begins.text;
+      split = append-nil s.pending ∙ begins.split ∙ ap (λ (l : List ℕ). l ++ 10 ∷ drop (len + 1) s.pending) (sym same) ∙ ap (λ (l : List ℕ). line ++ 10 ∷ l) (sym (ap (λ (r : ReaderState). r.pending) new));
       lines = ap (λ (r : ReaderState). r.lines) new;
       open_end = ap (λ (r : ReaderState). r.ended) new ∙ unended;
     })
-answers_line s u len (Ok None) front unended is new kept fault = absurd (cc)
-answers_line s u len (Err Memory) front unended is new kept fault = record { waits = ap (λ (r : ReaderState). r.pending) kept ∙ sym (append-nil s.pending); lines = ap (λ (r : ReaderState). r.lines) kept }
-answers_line s u len (Err Source) front unended is new kept fault = absurd (cc)
-answers_line s u len (Err TooLong) front unended is new kept fault = absurd (cc)
-answers_line s u len (Err Limit) front unended is new kept fault = absurd (cc)
+answers_line s u len (Ok None) begins unended is new kept fault = absurd (cc)
+answers_line s u len (Err Memory) begins unended is new kept fault = record { waits = ap (λ (r : ReaderState). r.pending) kept ∙ sym (append-nil s.pending); lines = ap (λ (r : ReaderState). r.lines) kept }
+answers_line s u len (Err Source) begins unended is new kept fault = absurd (cc)
+answers_line s u len (Err TooLong) begins unended is new kept fault = absurd (cc)
+answers_line s u len (Err Limit) begins unended is new kept fault = absurd (cc)
 
 not_true : (b : Bool) → (b ≡ true → ⊥) → b ≡ false
 not_true true h = absurd (h refl)

@@ -1,5 +1,5 @@
 pub mod Faults
-pub mod Fronts
+pub mod FirstLines
 pub mod Laws
 pub mod Limits
 pub mod Reader

@@ -28,7 +28,7 @@ pub record IsScript {A : Type 0} (longest : ℕ) (Says : List ℕ → A → Type
   pub split : script ≡ fed texts ++ last
 
 -- the first lines of what was taken, which say these items; they were run before more was read than had to be
-pub record IsFront {A : Type 0} (longest : ℕ) (Says : List ℕ → A → Type 0) (taken : List ℕ) (items : List A) : Type 0 where
+pub record IsPrefix {A : Type 0} (longest : ℕ) (Says : List ℕ → A → Type 0) (taken : List ℕ) (items : List A) : Type 0 where
   pub texts : List (List ℕ)
   pub rest : List ℕ
   pub each : All (IsText longest) texts
@@ -38,8 +38,8 @@ pub record IsFront {A : Type 0} (longest : ℕ) (Says : List ℕ → A → Type 
 
 -- whole lines were taken, and perhaps the beginning of another that isn't known yet
 pub record IsPartial {A : Type 0} (longest : ℕ) (Says : List ℕ → A → Type 0) (taken : List ℕ) (items : List A) : Type 0 where
-  pub front : IsFront longest Says taken items
-  pub unfinished : IsText longest front.rest
+  pub prefix : IsPrefix longest Says taken items
+  pub unfinished : IsText longest prefix.rest
 
 -- the whole script was taken, its last line with an end or without
 pub record IsWhole {A : Type 0} (longest : ℕ) (Says : List ℕ → A → Type 0) (left : Option (List ℕ)) (taken : List ℕ) (items : List A) : Type 0 where
@@ -70,9 +70,9 @@ pub record IsNext {A : Type 0} (longest : ℕ) (Says : List ℕ → A → Type 0
 
 -- after some lines, which were run, comes one that is too long
 pub record IsTooLong {A : Type 0} (longest : ℕ) (Says : List ℕ → A → Type 0) (taken : List ℕ) (items : List A) (number : ℕ) : Type 0 where
-  pub front : IsFront longest Says taken items
-  pub long : HasLongLine longest front.rest
-  pub counted : number ≡ length front.texts + 1
+  pub prefix : IsPrefix longest Says taken items
+  pub long : HasLongLine longest prefix.rest
+  pub counted : number ≡ length prefix.texts + 1
 
 -- the line says no item
 abbrev pub IsOutside : {A : Type 0} → (List ℕ → A → Type 0) → List ℕ → Type 0
@@ -85,7 +85,7 @@ IsStuck longest Says left taken items number =
 
 -- the lines that say these items were taken, the last of them perhaps the script's last
 abbrev pub HasLines : {A : Type 0} → ℕ → (List ℕ → A → Type 0) → Option (List ℕ) → List ℕ → List A → Type 0
-HasLines longest Says left taken items = IsFront longest Says taken items ⊎ IsWhole longest Says left taken items
+HasLines longest Says left taken items = IsPrefix longest Says taken items ⊎ IsWhole longest Says left taken items
 
 -- how much of a script was taken where its run ended between two lines, and what the lines before say, by how it ended
 abbrev pub EndsBetween : {A : Type 0} → ℕ → (List ℕ → A → Type 0) → Option (List ℕ) → List ℕ → List A → Status → Type 0

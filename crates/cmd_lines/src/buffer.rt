@@ -10,7 +10,7 @@ use r2_link::Source;
 const CHUNK: usize = 4_096;
 
 /// Takes away the bytes before `start`.
-pub(crate) fn drop_front(buffer: &mut Vec<u8>, start: usize)
+pub(crate) fn drop_first(buffer: &mut Vec<u8>, start: usize)
     requires { start ≤ vec_len buffer.old }
     ensures { buffer.new.items ≡ drop start buffer.old.items }
 {
@@ -21,7 +21,7 @@ pub(crate) fn drop_front(buffer: &mut Vec<u8>, start: usize)
 
 /// Reads at most 4,096 bytes, and at most `most`, and appends them to the buffer. It gives how many these are, none only at
 /// the end. The memory is found before the source is read.
-pub(crate) fn read_behind<S: Source>(
+pub(crate) fn read_more<S: Source>(
     buffer: &mut Vec<u8>,
     most: u64,
     source: &mut S,

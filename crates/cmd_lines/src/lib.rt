@@ -2,7 +2,7 @@
 #![tactic(auto)]
 
 mod buffer;
-mod front;
+mod first_line;
 pub mod laws;
 mod line_fault;
 mod line_reader;

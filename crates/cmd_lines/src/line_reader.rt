@@ -5,8 +5,8 @@ ghost use Rattle.cmd_lines.specs.Limits.{most_line, most_taken};
 ghost use Rattle.cmd_lines.specs.Texts.{IsText};
 
 use crate::LineFault;
-use crate::buffer::{drop_front, read_behind};
-use crate::front::{Front, front_of};
+use crate::buffer::{drop_first, read_more};
+use crate::first_line::{FirstLine, first_line_of};
 use r2_base::Bytes;
 use r2_link::Source;
 use std::alloc::Global;
@@ -79,10 +79,10 @@ impl LineReader {
         if self.ended {
             return false;
         }
-        match front_of(&self.buffer[self.start..], self.longest) {
-            Front::Unfinished => true,
-            Front::Line(_) => false,
-            Front::TooLong => false,
+        match first_line_of(&self.buffer[self.start..], self.longest) {
+            FirstLine::Unfinished => true,
+            FirstLine::Line(_) => false,
+            FirstLine::TooLong => false,
         }
     }
 
@@ -101,9 +101,9 @@ impl LineReader {
         if self.taken >= SOURCE_LIMIT {
             return Err(LineFault::Limit);
         }
-        drop_front(&mut self.buffer, self.start);
+        drop_first(&mut self.buffer, self.start);
         self.start = 0;
-        match read_behind(&mut self.buffer, SOURCE_LIMIT - self.taken, source) {
+        match read_more(&mut self.buffer, SOURCE_LIMIT - self.taken, source) {
             Ok(count) => {
                 self.taken += count as u64;
                 self.ended = count == 0;
@@ -143,10 +143,10 @@ impl LineReader {
         ensures limit { self.new.longest ≡ self.old.longest }
         ensures cause { result ≡ Err LineFault.Source → ⊥ }
     {
-        match front_of(&self.buffer[self.start..], self.longest) {
-            Front::Line(len) => self.give(alloc, len, len + 1),
-            Front::TooLong => Err(LineFault::TooLong),
-            Front::Unfinished => {
+        match first_line_of(&self.buffer[self.start..], self.longest) {
+            FirstLine::Line(len) => self.give(alloc, len, len + 1),
+            FirstLine::TooLong => Err(LineFault::TooLong),
+            FirstLine::Unfinished => {
                 let len = self.buffer.len() - self.start;
                 if len == 0 {
                     return Ok(None);

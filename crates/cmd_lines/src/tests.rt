@@ -54,7 +54,7 @@ fn line_has_as_many_bytes_as_it_may(rt: HostRuntime) -> Result<(), Fail> {
 }
 
 #[test]
-fn reading_goes_on_behind_a_fault(rt: HostRuntime) -> Result<(), Fail> {
+fn reading_goes_on_after_a_fault(rt: HostRuntime) -> Result<(), Fail> {
     let alloc = rt.alloc();
     let fails = Numbers::from_vec([1].to_vec(alloc)?);
     let mut source = MemSource::new(Bytes::from_vec(b"tick\n".to_vec(alloc)?), fails);

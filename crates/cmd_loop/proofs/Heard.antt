@@ -8,10 +8,10 @@ use Rattle.r2_link.specs.declared.lane.Item.TheVariants.{Datagram as ADatagram, 
 use Rattle.cmd_loop.specs.declared.ticker.Ticker.{Ticker}
 use Rattle.cmd_loop.specs.Events.{due, elapsed, event_of, events, heard, reached}
 use Rattle.cmd_loop.specs.Happenings.{Happening, Came, Closing, came, closed}
-use Rattle.cmd_loop.specs.Loop.{AskedBefore, NotAskedBehindLast}
+use Rattle.cmd_loop.specs.Loop.{AskedBefore, NotAskedAfterLast}
 use Rattle.cmd_loop.specs.Round.{due_at, ticked}
 
--- the events of one more item, before the clock is asked behind it
+-- the events of one more item, before the clock is asked after it
 pub heard-item : (tick start last : ℕ) (items : List Item) (moments : List ℕ) (item : Item)
     → length moments ≡ length items → heard tick start last (items ++ item ∷ []) moments ≡ heard tick start last items moments ++ event_of item ∷ []
 unfolding heard
@@ -23,7 +23,7 @@ heard-item tick start last (i ∷ is) (m ∷ ms) item same =
     ap (λ (l : List Event). (event_of i ∷ due last now) ++ l) (heard-item tick start (max last now) is ms item (omega (arith, same)))
     ∙ sym (append_assoc (event_of i ∷ due last now) (heard tick start (max last now) is ms) (event_of item ∷ []))
 
--- and behind it
+-- and after that
 pub heard-round : (tick start last : ℕ) (items : List Item) (moments : List ℕ) (item : Item) (moment : ℕ)
     → length moments ≡ length items
     → heard tick start last (items ++ item ∷ []) (moments ++ moment ∷ []) ≡ heard tick start last items moments ++ event_of item ∷ due (reached tick start last moments) (elapsed tick start moment)
@@ -44,7 +44,7 @@ unfolding reached
 reached-more tick start last [] moment = refl
 reached-more tick start last (m ∷ ms) moment = reached-more tick start (max last (elapsed tick start m)) ms moment
 
--- a ticker whose start is that moment, behind some later ones
+-- a ticker whose start is that moment, after some later ones
 abbrev pub ticker_at : ℕ → ℕ → List ℕ → Ticker
 ticker_at tick start later = record { start = start; tick_ms = tick; reached = reached tick start 0 later }
 
@@ -92,7 +92,7 @@ closed-first zero hs = append-nil (hs ++ Closing ∷ [])
 closed-first (suc n) hs =
     sym (append_assoc (hs ++ Closing ∷ []) (closed n []) (Closing ∷ [])) ∙ ap (λ (l : List Happening). l ++ Closing ∷ []) (closed-first n hs)
 
-pub asked-item : (item : Item) (items : List Item) (moments : List ℕ) → NotAskedBehindLast items moments → AskedBefore (Came (event_of item)) items moments
+pub asked-item : (item : Item) (items : List Item) (moments : List ℕ) → NotAskedAfterLast items moments → AskedBefore (Came (event_of item)) items moments
 asked-item (ADatagram d) items moments same = same
 asked-item NoDatagram items moments same = same
 

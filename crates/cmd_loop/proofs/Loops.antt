@@ -99,7 +99,7 @@ pub closes-made : {P : Type 0} (T : Turned P) (p q : P) (o : Ends) (l m : LinkTo
     → Closes T p q l m n → Makes (Turns T p q (closed n [])) (record o { link = l }) (record o { link = m }) [] []
 closes-made T p q o l m n closes = record { stored = []; sends = closes.sends; right = closes.turned; passed = Passes-link o l m [] closes.sends closes.passed }
 
--- a loop behind so many whole rounds
+-- a loop after so many whole rounds
 pub record IsAt {P : Type 0} (T : Turned P) (first now : P) (start tick : ℕ) (t : Ticker) (made : ℕ) (old new : Ends) : Type 0 where
   pub items : List Item
   pub later : List ℕ
@@ -121,7 +121,7 @@ at-start T first start tick old new begins passed = record {
   ticker = ticker-begun tick start;
 }
 
--- a loop in a round, behind the turn of its item
+-- a loop in a round, after the turn of its item
 pub record IsWithin {P : Type 0} (T : Turned P) (first now : P) (start tick : ℕ) (t : Ticker) (made : ℕ) (old new : Ends) : Type 0 where
   pub items : List Item
   pub item : Item

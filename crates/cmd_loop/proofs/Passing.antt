@@ -1,13 +1,17 @@
 -- What passes in one stretch and then in another.
-use Rattle.std.proofs.Common.{◌≡◌, ℕ, List, [], ◌++◌, ap, ◌∙◌, append-nil}
+use Rattle.std.proofs.Common.{◌≡◌, ℕ, List, [], ◌++◌, None, ap, ◌∙◌, append-nil}
 use Rattle.r2_base.specs.declared.datagram.Datagram.{Datagram}
 use Rattle.r2_link.specs.declared.lane.Item.{Item}
-use Rattle.r2_link.specs.Links.{LinkPasses, LinkTold}
+use Rattle.r2_link.specs.Links.{LinkPasses, LinkTold, tells_address}
 use Rattle.r2_link.proofs.Links.{LinkPasses-nothing, LinkPasses-then}
 use Rattle.r2_link.proofs.Streams.{Appends-nil, Appends-trans, Consumes-nil, Consumes-trans}
 use Rattle.r2_link.proofs.Told.{Gains-nil, Gains-then, Tells-nil, Tells-then}
 use Rattle.hc_log.specs.declared.record.Record.{Record}
 use Rattle.cmd_loop.specs.Ends.{Ends, Passage, Passes, joined, nothing, passing}
+
+-- ends that tell nothing
+abbrev pub silent : Ends
+silent = record { source = None; written = None; link = tells_address None; clock = None; records = None }
 
 pub Passes-nothing : (a : Ends) → Passes a a nothing
 Passes-nothing a = record {

@@ -22,12 +22,27 @@ use Rattle.cmd_loop.proofs.Passing.{Passes-nothing}
 abbrev pub Gives : Rule → Rule → Type 0
 Gives S S' = (happened : List Happening) (stored : List Record) (sends : List Datagram) → S happened stored sends → S' happened stored sends
 
-module _ (S S' : Rule) (on : Gives S S') (a b : Ends) (items : List Item) (moments : List ℕ) where
-  all-weaker : (made : List Happening) → Makes (S made) a b items moments → Makes (S' made) a b items moments
-  all-weaker made all = record { stored = all.stored; sends = all.sends; right = on made all.stored all.sends all.right; passed = all.passed }
+-- what is stored by a rule is of that kind
+abbrev pub StoresOnly : (List Record → Type 0) → Rule → Type 0
+StoresOnly Q S = (happened : List Happening) (stored : List Record) (sends : List Datagram) → S happened stored sends → Q stored
 
-  part-weaker : (made : List Happening) → GivesPart S made a b items moments → GivesPart S' made a b items moments
-  part-weaker made part = record {
+-- what passes from one moment to another passes from a third to a fourth too, where what was stored is of that kind
+pub record Carries (Q : List Record → Type 0) (a b c d : Ends) : Type 0 where
+  pub passes : (items : List Item) (moments : List ℕ) (stored : List Record) (sends : List Datagram)
+      → Q stored → Passes a b (passing items moments stored sends) → Passes c d (passing items moments stored sends)
+  pub dry : RanDry a.link.left b.link.left → RanDry c.link.left d.link.left
+
+module _ (Q : List Record → Type 0) (S S' : Rule) (only : StoresOnly Q S) (on : Gives S S') (a b c d : Ends) (over : Carries Q a b c d) (items : List Item) (moments : List ℕ) where
+  all-by : (made : List Happening) → Makes (S made) a b items moments → Makes (S' made) c d items moments
+  all-by made all = record {
+    stored = all.stored;
+    sends = all.sends;
+    right = on made all.stored all.sends all.right;
+    passed = over.passes items moments all.stored all.sends (only made all.stored all.sends all.right) all.passed;
+  }
+
+  part-by : (made : List Happening) → GivesPart S made a b items moments → GivesPart S' made c d items moments
+  part-by made part = record {
     before = part.before;
     last = part.last;
     is_last = part.is_last;
@@ -38,38 +53,58 @@ module _ (S S' : Rule) (on : Gives S S') (a b : Ends) (items : List Item) (momen
     unsent = part.unsent;
     right_before = on part.before part.records part.earlier part.right_before;
     right = on made (part.records ++ part.stored) (part.earlier ++ (part.sent ++ part.unsent)) part.right;
-    passed = part.passed;
+    passed = over.passes items moments (part.records ++ part.stored) (part.earlier ++ part.sent)
+        (only made (part.records ++ part.stored) (part.earlier ++ (part.sent ++ part.unsent)) part.right) part.passed;
   }
 
-  lost-weaker : (made : List Happening) → LosesTurn S made a b items moments → LosesTurn S' made a b items moments
-  lost-weaker made lost = record { before = lost.before; last = lost.last; is_last = lost.is_last; made = all-weaker lost.before lost.made }
+  lost-by : (made : List Happening) → LosesTurn S made a b items moments → LosesTurn S' made c d items moments
+  lost-by made lost = record { before = lost.before; last = lost.last; is_last = lost.is_last; made = all-by lost.before lost.made }
 
-  between-weaker : (pace : Pace) → EndsBetween S pace a b items moments → EndsBetween S' pace a b items moments
-  between-weaker pace ends = record { asked = ends.asked; within = ends.within; made = all-weaker (came (events pace.tick_ms items moments)) ends.made }
+  between-by : (pace : Pace) → EndsBetween S pace a b items moments → EndsBetween S' pace c d items moments
+  between-by pace ends = record { asked = ends.asked; within = ends.within; made = all-by (came (events pace.tick_ms items moments)) ends.made }
 
-module _ (D D' W W' S S' : Rule) (done : Gives D D') (whole : Gives W W') (on : Gives S S') (pace : Pace) (a b : Ends) where
-  ended-weaker : (items : List Item) (moments : List ℕ) (n : ℕ) (status : Status) → Ended D W S pace a b items moments n status → Ended D' W' S' pace a b items moments n status
-  ended-weaker items moments n Done ended = (ended.0, all-weaker D D' done a b items moments (happenings pace.tick_ms items moments n) ended.1)
-  ended-weaker items moments n TurnsSpent ended =
-      (ended.0, ended.1, ended.2, all-weaker W W' whole a b items moments (came (events pace.tick_ms items moments)) ended.3)
-  ended-weaker items moments n ClockFault ended = (ended.0, ended.1, all-weaker S S' on a b items moments (came (events pace.tick_ms items moments)) ended.2)
-  ended-weaker items moments n LinkFault (inl ends) = inl (ends.0, between-weaker S S' on a b items moments pace ends.1)
-  ended-weaker items moments n LinkFault (inr part) = inr (part-weaker S S' on a b items moments (happenings pace.tick_ms items moments n) part)
-  ended-weaker items moments n DiskFault ended = (ended.0, lost-weaker S S' on a b items moments (came (events pace.tick_ms items moments)) ended.1)
-  ended-weaker items moments n Memory (inl none) = inl none
-  ended-weaker items moments n Memory (inr (inl ends)) = inr (inl (ends.0, between-weaker S S' on a b items moments pace ends.1))
-  ended-weaker items moments n Memory (inr (inr lost)) = inr (inr (lost-weaker S S' on a b items moments (happenings pace.tick_ms items moments n) lost))
-  ended-weaker items moments n _ ended = absurd ended
+module _ (Q : List Record → Type 0) (none : Q []) (D D' W W' S S' : Rule) (only_done : StoresOnly Q D) (only_whole : StoresOnly Q W) (only : StoresOnly Q S)
+    (done : Gives D D') (whole : Gives W W') (on : Gives S S') (pace : Pace) (a b c d : Ends) (over : Carries Q a b c d) where
+  ended-by : (items : List Item) (moments : List ℕ) (n : ℕ) (status : Status) → Ended D W S pace a b items moments n status → Ended D' W' S' pace c d items moments n status
+  ended-by items moments n Done ended = (ended.0, all-by Q D D' only_done done a b c d over items moments (happenings pace.tick_ms items moments n) ended.1)
+  ended-by items moments n TurnsSpent ended =
+      (ended.0, ended.1, ended.2, all-by Q W W' only_whole whole a b c d over items moments (came (events pace.tick_ms items moments)) ended.3)
+  ended-by items moments n ClockFault ended = (ended.0, ended.1, all-by Q S S' only on a b c d over items moments (came (events pace.tick_ms items moments)) ended.2)
+  ended-by items moments n LinkFault (inl ends) = inl (ends.0, between-by Q S S' only on a b c d over items moments pace ends.1)
+  ended-by items moments n LinkFault (inr part) = inr (part-by Q S S' only on a b c d over items moments (happenings pace.tick_ms items moments n) part)
+  ended-by items moments n DiskFault ended = (ended.0, lost-by Q S S' only on a b c d over items moments (came (events pace.tick_ms items moments)) ended.1)
+  ended-by items moments n Memory (inl nothing) = inl (over.passes [] [] [] [] none nothing.0, nothing.1, nothing.2, nothing.3)
+  ended-by items moments n Memory (inr (inl ends)) = inr (inl (ends.0, between-by Q S S' only on a b c d over items moments pace ends.1))
+  ended-by items moments n Memory (inr (inr lost)) = inr (inr (lost-by Q S S' only on a b c d over items moments (happenings pace.tick_ms items moments n) lost))
+  ended-by items moments n _ ended = absurd ended
 
-  pub serves-weaker : (status : Status) → Serves D W S pace a b status → Serves D' W' S' pace a b status
-  serves-weaker status serves = record {
+  serves-by : (status : Status) → Serves D W S pace a b status → Serves D' W' S' pace c d status
+  serves-by status serves = record {
     items = serves.items;
     moments = serves.moments;
     closings = serves.closings;
     within = serves.within;
-    found_end = serves.found_end;
-    ended = ended-weaker serves.items serves.moments serves.closings status serves.ended;
+    found_end = λ some. let found = serves.found_end some in record { asked = found.asked; within = found.within; dry = over.dry found.dry };
+    ended = ended-by serves.items serves.moments serves.closings status serves.ended;
   }
+
+-- where anything may be stored
+abbrev Any : List Record → Type 0
+Any stored = Unit {0}
+
+any-only : (S : Rule) → StoresOnly Any S
+any-only S happened stored sends right = tt
+
+pub serves-weaker : (D D' W W' S S' : Rule) → Gives D D' → Gives W W' → Gives S S' → (pace : Pace) (a b : Ends) (status : Status)
+    → Serves D W S pace a b status → Serves D' W' S' pace a b status
+serves-weaker D D' W W' S S' done whole on pace a b status =
+    serves-by Any tt D D' W W' S S' (any-only D) (any-only W) (any-only S) done whole on pace a b a b
+    (record { passes = λ items moments stored sends any passed. passed; dry = λ ran. ran }) status
+
+pub serves-over : (Q : List Record → Type 0) → Q [] → (D W S : Rule) → StoresOnly Q D → StoresOnly Q W → StoresOnly Q S → (pace : Pace) (a b c d : Ends) → Carries Q a b c d → (status : Status)
+    → Serves D W S pace a b status → Serves D W S pace c d status
+serves-over Q none D W S only_done only_whole only pace a b c d over status =
+    serves-by Q none D D W W S S only_done only_whole only (λ happened stored sends right. right) (λ happened stored sends right. right) (λ happened stored sends right. right) pace a b c d over status
 
 -- memory ran out before anything was taken in
 pub serves-nothing : (D W S : Rule) (pace : Pace) (a : Ends) → Serves D W S pace a a Memory
@@ -81,66 +116,6 @@ serves-nothing D W S pace a = record {
   found_end = λ some. absurd (omega (arith, some));
   ended = inl (Passes-nothing a, refl, refl, refl);
 }
-
--- what passes from one moment to another passes from a third to a fourth too, where what was stored is of that kind
-pub record Carries (Q : List Record → Type 0) (a b c d : Ends) : Type 0 where
-  pub passes : (items : List Item) (moments : List ℕ) (stored : List Record) (sends : List Datagram)
-      → Q stored → Passes a b (passing items moments stored sends) → Passes c d (passing items moments stored sends)
-  pub dry : RanDry a.link.left b.link.left → RanDry c.link.left d.link.left
-
--- what is stored by a rule is of that kind
-abbrev pub StoresOnly : (List Record → Type 0) → Rule → Type 0
-StoresOnly Q S = (happened : List Happening) (stored : List Record) (sends : List Datagram) → S happened stored sends → Q stored
-
-module _ (Q : List Record → Type 0) (S : Rule) (only : StoresOnly Q S) (a b c d : Ends) (over : Carries Q a b c d) (items : List Item) (moments : List ℕ) where
-  all-over : (made : List Happening) → Makes (S made) a b items moments → Makes (S made) c d items moments
-  all-over made all = record { stored = all.stored; sends = all.sends; right = all.right; passed = over.passes items moments all.stored all.sends (only made all.stored all.sends all.right) all.passed }
-
-  part-over : (made : List Happening) → GivesPart S made a b items moments → GivesPart S made c d items moments
-  part-over made part = record {
-    before = part.before;
-    last = part.last;
-    is_last = part.is_last;
-    records = part.records;
-    earlier = part.earlier;
-    stored = part.stored;
-    sent = part.sent;
-    unsent = part.unsent;
-    right_before = part.right_before;
-    right = part.right;
-    passed = over.passes items moments (part.records ++ part.stored) (part.earlier ++ part.sent)
-        (only made (part.records ++ part.stored) (part.earlier ++ (part.sent ++ part.unsent)) part.right) part.passed;
-  }
-
-  lost-over : (made : List Happening) → LosesTurn S made a b items moments → LosesTurn S made c d items moments
-  lost-over made lost = record { before = lost.before; last = lost.last; is_last = lost.is_last; made = all-over lost.before lost.made }
-
-  between-over : (pace : Pace) → EndsBetween S pace a b items moments → EndsBetween S pace c d items moments
-  between-over pace ends = record { asked = ends.asked; within = ends.within; made = all-over (came (events pace.tick_ms items moments)) ends.made }
-
-module _ (Q : List Record → Type 0) (none : Q []) (D W S : Rule) (only_done : StoresOnly Q D) (only_whole : StoresOnly Q W) (only : StoresOnly Q S) (pace : Pace) (a b c d : Ends) (over : Carries Q a b c d) where
-  ended-over : (items : List Item) (moments : List ℕ) (n : ℕ) (status : Status) → Ended D W S pace a b items moments n status → Ended D W S pace c d items moments n status
-  ended-over items moments n Done ended = (ended.0, all-over Q D only_done a b c d over items moments (happenings pace.tick_ms items moments n) ended.1)
-  ended-over items moments n TurnsSpent ended =
-      (ended.0, ended.1, ended.2, all-over Q W only_whole a b c d over items moments (came (events pace.tick_ms items moments)) ended.3)
-  ended-over items moments n ClockFault ended = (ended.0, ended.1, all-over Q S only a b c d over items moments (came (events pace.tick_ms items moments)) ended.2)
-  ended-over items moments n LinkFault (inl ends) = inl (ends.0, between-over Q S only a b c d over items moments pace ends.1)
-  ended-over items moments n LinkFault (inr part) = inr (part-over Q S only a b c d over items moments (happenings pace.tick_ms items moments n) part)
-  ended-over items moments n DiskFault ended = (ended.0, lost-over Q S only a b c d over items moments (came (events pace.tick_ms items moments)) ended.1)
-  ended-over items moments n Memory (inl nothing) = inl (over.passes [] [] [] [] none nothing.0, nothing.1, nothing.2, nothing.3)
-  ended-over items moments n Memory (inr (inl ends)) = inr (inl (ends.0, between-over Q S only a b c d over items moments pace ends.1))
-  ended-over items moments n Memory (inr (inr lost)) = inr (inr (lost-over Q S only a b c d over items moments (happenings pace.tick_ms items moments n) lost))
-  ended-over items moments n _ ended = absurd ended
-
-  pub serves-over : (status : Status) → Serves D W S pace a b status → Serves D W S pace c d status
-  serves-over status serves = record {
-    items = serves.items;
-    moments = serves.moments;
-    closings = serves.closings;
-    within = serves.within;
-    found_end = λ some. let found = serves.found_end some in record { asked = found.asked; within = found.within; dry = over.dry found.dry };
-    ended = ended-over serves.items serves.moments serves.closings status serves.ended;
-  }
 
 kept-Joins : {A : Type 0} (a b c m : Option (List A)) → IsKept a b → Joins b c m → Joins a c m
 kept-Joins a b c None kept joined = tt
@@ -155,7 +130,7 @@ pub serves-rejoined : (D W S : Rule) (pace : Pace) (a b : Ends) (old split new :
     → Splits old split a.link → Rejoins split new b.link → Serves D W S pace a b status
     → Serves D W S pace (record a { link = record old { left = a.link.left; lanes = None } }) (record b { link = record new { left = b.link.left; lanes = None } }) status
 serves-rejoined D W S pace a b old split new status splits rejoins serves =
-    serves-over (λ _. Unit {0}) tt D W S (λ happened stored sends right. tt) (λ happened stored sends right. tt) (λ happened stored sends right. tt) pace a b (record a { link = record old { left = a.link.left; lanes = None } }) (record b { link = record new { left = b.link.left; lanes = None } })
+    serves-over Any tt D W S (any-only D) (any-only W) (any-only S) pace a b (record a { link = record old { left = a.link.left; lanes = None } }) (record b { link = record new { left = b.link.left; lanes = None } })
     (record {
       passes = λ items moments stored sends any passed. record {
         source = passed.source;

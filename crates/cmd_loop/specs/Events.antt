@@ -10,7 +10,7 @@ abbrev pub event_of : Item → Event
 event_of (ADatagram d) = DatagramEvent d
 event_of NoDatagram = QuietEvent
 
--- how many whole ticks a moment is behind the start; a moment before the start counts as the start
+-- how many whole ticks lie between the start and a moment; a moment before the start counts as the start
 unfoldable pub elapsed : ℕ → ℕ → ℕ → ℕ
 elapsed tick start moment = (moment - start) / tick
 
@@ -23,7 +23,7 @@ unfoldable pub reached : ℕ → ℕ → ℕ → List ℕ → ℕ
 reached tick start last [] = last
 reached tick start last (moment ∷ more) = reached tick start (max last (elapsed tick start moment)) more
 
--- the events of these items, each followed by the tick that is due at the moment behind it
+-- the events of these items, each followed by the tick that is due at the moment after it
 unfoldable pub heard : ℕ → ℕ → ℕ → List Item → List ℕ → List Event
 heard tick start last [] moments = []
 heard tick start last (item ∷ items) [] = event_of item ∷ heard tick start last items []

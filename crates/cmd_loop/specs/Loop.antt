@@ -17,20 +17,20 @@ use Rattle.cmd_loop.specs.Round.{Makes}
 abbrev pub Rule : Type 1
 Rule = List Happening → List Record → List Datagram → Type 0
 
--- the clock was asked for the start, and behind the turn of each item
-abbrev pub AskedBehindEach : List Item → List ℕ → Type 0
-AskedBehindEach items moments = length moments ≡ length items + 1
+-- the clock was asked for the start, and after the turn of each item
+abbrev pub AskedAfterEach : List Item → List ℕ → Type 0
+AskedAfterEach items moments = length moments ≡ length items + 1
 
--- the clock wasn't asked behind the turn of the last item, or not even for the start
-abbrev pub NotAskedBehindLast : List Item → List ℕ → Type 0
-NotAskedBehindLast items moments = length moments ≡ length items
+-- the clock wasn't asked after the turn of the last item, or not even for the start
+abbrev pub NotAskedAfterLast : List Item → List ℕ → Type 0
+NotAskedAfterLast items moments = length moments ≡ length items
 
--- what was asked of the clock when a turn was made: something behind the last item only where that is of a tick, or after the end
+-- what was asked of the clock when a turn was made: something after the last item only where that is of a tick, or after the end
 abbrev pub AskedBefore : Happening → List Item → List ℕ → Type 0
-AskedBefore (Came Tick) items moments = AskedBehindEach items moments
-AskedBefore (Came (DatagramEvent d)) items moments = NotAskedBehindLast items moments
-AskedBefore (Came Quiet) items moments = NotAskedBehindLast items moments
-AskedBefore Closing items moments = AskedBehindEach items moments
+AskedBefore (Came Tick) items moments = AskedAfterEach items moments
+AskedBefore (Came (DatagramEvent d)) items moments = NotAskedAfterLast items moments
+AskedBefore (Came Quiet) items moments = NotAskedAfterLast items moments
+AskedBefore Closing items moments = AskedAfterEach items moments
 
 -- one turn is the last of all, and is made with what was asked of the clock by then
 pub record IsLast (items : List Item) (moments : List ℕ) (all before : List Happening) (last : Happening) : Type 0 where
@@ -60,13 +60,13 @@ pub record LosesTurn (S : Rule) (all : List Happening) (old new : Ends) (items :
 
 -- a further receive, within those that may be made, brought nothing more, and all turns before it are there
 pub record EndsBetween (S : Rule) (pace : Pace) (old new : Ends) (items : List Item) (moments : List ℕ) : Type 0 where
-  pub asked : AskedBehindEach items moments
+  pub asked : AskedAfterEach items moments
   pub within : length items < pace.turns
   pub made : Makes (S (came (events pace.tick_ms items moments))) old new items moments
 
 -- a further receive, within those that may be made, found the end of the link, and the clock wasn't asked any more
 pub record FoundEnd (pace : Pace) (old new : Ends) (items : List Item) (moments : List ℕ) : Type 0 where
-  pub asked : AskedBehindEach items moments
+  pub asked : AskedAfterEach items moments
   pub within : length items < pace.turns
   pub dry : RanDry old.link.left new.link.left
 
@@ -77,9 +77,9 @@ abbrev pub Ended : Rule → Rule → Rule → Pace → Ends → Ends → List It
 Ended D W S pace old new items moments closings Done =
     (1 ≤ closings) × Makes (D (happenings pace.tick_ms items moments closings)) old new items moments
 Ended D W S pace old new items moments closings TurnsSpent =
-    (closings ≡ 0) × AskedBehindEach items moments × (length items ≡ pace.turns) × Makes (W (came (events pace.tick_ms items moments))) old new items moments
+    (closings ≡ 0) × AskedAfterEach items moments × (length items ≡ pace.turns) × Makes (W (came (events pace.tick_ms items moments))) old new items moments
 Ended D W S pace old new items moments closings ClockFault =
-    (closings ≡ 0) × NotAskedBehindLast items moments × Makes (S (came (events pace.tick_ms items moments))) old new items moments
+    (closings ≡ 0) × NotAskedAfterLast items moments × Makes (S (came (events pace.tick_ms items moments))) old new items moments
 Ended D W S pace old new items moments closings LinkFault =
     ((closings ≡ 0) × EndsBetween S pace old new items moments) ⊎ GivesPart S (happenings pace.tick_ms items moments closings) old new items moments
 Ended D W S pace old new items moments closings DiskFault =

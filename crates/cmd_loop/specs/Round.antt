@@ -75,7 +75,7 @@ StopsItem T p old new status =
 abbrev pub due_at : Ticker → ℕ → List Event
 due_at t moment = due t.reached (elapsed t.tick_ms t.start moment)
 
--- a ticker behind a moment
+-- a ticker after a moment
 abbrev pub ticked : Ticker → ℕ → Ticker
 ticked t moment = record t { reached = max t.reached (elapsed t.tick_ms t.start moment) }
 

@@ -26,3 +26,5 @@ pub use without_journal::serve_without_journal;
 
 #[cfg(test)]
 mod tests;
+#[cfg(test)]
+mod waiting_tests;

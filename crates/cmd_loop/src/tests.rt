@@ -4,7 +4,7 @@ ghost use Rattle.std.specs.Prelude.{◌≡◌, ℕ, ◌+◌, ◌*◌, ◌≤◌,
 ghost use Rattle.std.proofs.Common.{rules};
 ghost use Rattle.hc_log.specs.Durable.{replay};
 
-use crate::{Pace, Party, Plain, PlainParty, serve, serve_without_journal};
+use crate::{Pace, Party, serve};
 use cmd_status::Status;
 use hc_journal::MemJournal;
 use hc_log::{Entries, Record, Turn};
@@ -102,11 +102,25 @@ impl Party for Noter {
     ghost closes = { λ old before records sent replies new finished. finished };
 }
 
-/// Counts the receives that were not to wait.
+/// How long a tick takes.
+pub(crate) const TICK_MS: u32 = 10;
+
+/// Counts the receives that were not to wait, and those that were to wait for a tick's time.
 #[derive(Drop)]
-struct Waits {
+pub(crate) struct Waits {
     inner: MemLink,
-    hurried: u64,
+    pub(crate) hurried: u64,
+    pub(crate) patient: u64,
+}
+
+impl Waits {
+    pub(crate) fn new(inner: MemLink) -> Waits {
+        Waits {
+            inner,
+            hurried: 0,
+            patient: 0,
+        }
+    }
 }
 
 impl Link for Waits {
@@ -124,6 +138,9 @@ impl Link for Waits {
         if wait_ms == 0 {
             self.hurried = self.hurried.saturating_add(1);
         }
+        if wait_ms == u64::from(TICK_MS) {
+            self.patient = self.patient.saturating_add(1);
+        }
         self.inner.receive(alloc, wait_ms)
     }
 
@@ -132,8 +149,8 @@ impl Link for Waits {
     }
 }
 
-/// Two requests.
-fn requests(alloc: Global) -> Result<Items, NoMemory> {
+/// Two requests, and then so often nothing.
+pub(crate) fn requests(alloc: Global, quiets: u8) -> Result<Items, NoMemory> {
     let mut items = Items::new(alloc);
     for byte in [1, 2] {
         items.push(Item::Datagram(Datagram {
@@ -142,22 +159,35 @@ fn requests(alloc: Global) -> Result<Items, NoMemory> {
             bytes: Bytes::from_vec([byte].to_vec(alloc)?),
         }))?;
     }
+    for _ in 0..quiets {
+        items.push(Item::Quiet)?;
+    }
     Ok(items)
 }
 
-/// How a run ended, the bytes that were sent, how many records were stored, and how many receives didn't wait.
+/// How a run ended, the bytes that were sent, how many records were stored, and how many receives didn't wait or waited for a tick's
+/// time.
 #[derive(Debug, PartialEq, Drop)]
 struct Ran {
     status: Status,
     sent: Bytes,
     records: usize,
     hurried: u64,
+    patient: u64,
 }
 
-/// Runs a noter with three answers to give from before, whose link, clock and journal fail at these calls.
-fn run(alloc: Global, link: u64, clock: u64, journal: u64, turns: u8) -> Result<Ran, NoMemory> {
+/// Runs a noter with three answers to give from before, whose link, clock and journal fail at these calls. So often nothing comes after
+/// the requests.
+fn run(
+    alloc: Global,
+    link: u64,
+    clock: u64,
+    journal: u64,
+    turns: u8,
+    quiets: u8,
+) -> Result<Ran, NoMemory> {
     let lane = Lane {
-        items: requests(alloc)?,
+        items: requests(alloc, quiets)?,
         room: Room {
             bytes: 100,
             calls: 100,
@@ -165,7 +195,7 @@ fn run(alloc: Global, link: u64, clock: u64, journal: u64, turns: u8) -> Result<
         fails: Numbers::from_vec([link].to_vec(alloc)?),
     };
     let inner = MemLink::new(alloc, lane, Lanes::new(alloc))?;
-    let mut link = Waits { inner, hurried: 0 };
+    let mut link = Waits::new(inner);
     let moments = Numbers::from_vec([5, 6, 30].to_vec(alloc)?);
     let mut clock = MemClock::new(moments, Numbers::from_vec([clock].to_vec(alloc)?));
     let mut journal = MemJournal::new(alloc, Numbers::from_vec([journal].to_vec(alloc)?));
@@ -174,7 +204,7 @@ fn run(alloc: Global, link: u64, clock: u64, journal: u64, turns: u8) -> Result<
         unanswered: 3,
     };
     let pace = Pace {
-        tick_ms: 10,
+        tick_ms: TICK_MS,
         turns: u64::from(turns),
     };
     let status = serve(alloc, &mut party, &mut link, &mut journal, &mut clock, pace);
@@ -189,6 +219,7 @@ fn run(alloc: Global, link: u64, clock: u64, journal: u64, turns: u8) -> Result<
         sent,
         records: journal.records().len(),
         hurried: link.hurried,
+        patient: link.patient,
     })
 }
 
@@ -215,7 +246,7 @@ const RUNS: [(u64, u64, u64, u8, Status, &[u8], usize, u64); 10] = [
 fn a_noter_stores_before_it_sends_and_answers_all(rt: HostRuntime) -> Result<(), Fail> {
     let alloc = rt.alloc();
     for (link, clock, journal, turns, status, sent, records, hurried) in RUNS {
-        let ran = run(alloc, link, clock, journal, turns)?;
+        let ran = run(alloc, link, clock, journal, turns, 0)?;
         assert_eq!(rt; ran.status, status);
         assert_eq!(rt; ran.sent.as_slice(), sent);
         assert_eq!(rt; ran.records, records);
@@ -224,44 +255,13 @@ fn a_noter_stores_before_it_sends_and_answers_all(rt: HostRuntime) -> Result<(),
     Ok(())
 }
 
-/// It hears each event, and says nothing.
-#[derive(Drop)]
-struct Listener {
-    alloc: Global,
-}
-
-impl PlainParty for Listener {
-    ghost turned = { λ a events sends b. ⊤ };
-
-    ghost had_turns = { λ n a. ⊤ };
-
-    fn turn(&mut self, _event: &Event) -> Result<Datagrams, NoMemory> {
-        Ok(Datagrams::new(self.alloc))
-    }
-
-    ghost begins = { λ a. Prim.search rules };
-}
-
+// The answers go out in the turns of the requests, of a tick and of the first two quiets. Nothing is pending at the other two and at the
+// end.
 #[test]
-fn a_plain_party_waits_for_what_comes(rt: HostRuntime) -> Result<(), Fail> {
-    let alloc = rt.alloc();
-    let lane = Lane {
-        items: requests(alloc)?,
-        room: Room { bytes: 0, calls: 0 },
-        fails: Numbers::new(alloc),
-    };
-    let inner = MemLink::new(alloc, lane, Lanes::new(alloc))?;
-    let mut link = Waits { inner, hurried: 0 };
-    let mut clock = MemClock::new(Numbers::new(alloc), Numbers::new(alloc));
-    let pace = Pace {
-        tick_ms: 10,
-        turns: 2,
-    };
-    let mut party = Plain {
-        party: Listener { alloc },
-    };
-    let status = serve_without_journal(alloc, &mut party, &mut link, &mut clock, pace);
-    assert_eq!(rt; status, Status::TurnsSpent);
-    assert_eq!(rt; link.hurried, 0);
+fn a_receive_waits_for_a_tick_where_nothing_is_pending(rt: HostRuntime) -> Result<(), Fail> {
+    let ran = run(rt.alloc(), 0, 0, 0, 9, 4)?;
+    assert_eq!(rt; ran.status, Status::Done);
+    assert_eq!(rt; ran.sent.as_slice(), b"ananaaa".as_slice());
+    assert_eq!(rt; (ran.hurried, ran.patient), (4, 3));
     Ok(())
 }

@@ -5,8 +5,8 @@ use Rattle.std.specs.List.{flat_map}
 use Rattle.std.proofs.lemmas.Grind.{flat_map-append}
 use Rattle.std.proofs.lemmas.List.{take_more}
 use Rattle.r2_base.specs.declared.datagram.Datagram.{Datagram}
-use Rattle.r2_link.specs.Streams.{AppendsFront}
-use Rattle.r2_link.proofs.Streams.{Appends-trans, AppendsFront-longer, AppendsFront-then}
+use Rattle.r2_link.specs.Streams.{AppendsPrefix}
+use Rattle.r2_link.proofs.Streams.{Appends-trans, AppendsPrefix-longer, AppendsPrefix-then}
 use Rattle.cmd_script.specs.Printed.{out_text}
 
 one_more : (sends : List Datagram) (i : ℕ) (d : Datagram) → i < length sends → d ≡ get_or sends i d → flat_map out_text (take (i + 1) sends) ≡ flat_map out_text (take i sends) ++ out_text d
@@ -19,8 +19,8 @@ sent_one_more a b c sends i d inside is before now =
     rw (one_more sends i d inside is) (Appends-trans a b c (flat_map out_text (take i sends)) (out_text d) before now)
 
 -- the lines so far, and a prefix of the line of the next datagram
-pub sent_in_part : (a b c : Option (List ℕ)) (sends : List Datagram) (i : ℕ) (d : Datagram) → i < length sends → d ≡ get_or sends i d → Appends a b (flat_map out_text (take i sends)) → AppendsFront b c (out_text d) → AppendsFront a c (flat_map out_text sends)
+pub sent_in_part : (a b c : Option (List ℕ)) (sends : List Datagram) (i : ℕ) (d : Datagram) → i < length sends → d ≡ get_or sends i d → Appends a b (flat_map out_text (take i sends)) → AppendsPrefix b c (out_text d) → AppendsPrefix a c (flat_map out_text sends)
 sent_in_part a b c sends i d inside is before cut =
-    let so_far : AppendsFront a c (flat_map out_text (take (i + 1) sends)) = rw (one_more sends i d inside is) (AppendsFront-then a b c (flat_map out_text (take i sends)) (out_text d) cut before) in
+    let so_far : AppendsPrefix a c (flat_map out_text (take (i + 1) sends)) = rw (one_more sends i d inside is) (AppendsPrefix-then a b c (flat_map out_text (take i sends)) (out_text d) cut before) in
     let parts = ap (flat_map out_text) (sym (take-append-drop (i + 1) sends)) ∙ flat_map-append out_text (take (i + 1) sends) (drop (i + 1) sends) in
-    subst (AppendsFront a c) (sym parts) (AppendsFront-longer a c (flat_map out_text (take (i + 1) sends)) (flat_map out_text (drop (i + 1) sends)) so_far)
+    subst (AppendsPrefix a c) (sym parts) (AppendsPrefix-longer a c (flat_map out_text (take (i + 1) sends)) (flat_map out_text (drop (i + 1) sends)) so_far)

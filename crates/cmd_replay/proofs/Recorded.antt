@@ -1,104 +1,78 @@
 -- A member and the records of its turns, line by line.
-use Rattle.std.proofs.Common.{◌≡◌, List, [], ◌∷◌, ◌++◌, Option, None, Some, refl, sym, ap, subst, ◌∙◌, arith, append-nil, append_assoc}
+use Rattle.std.proofs.Common.{◌≡◌, List, [], ◌∷◌, ◌++◌, Option, None, Some, refl, sym, ap, subst, ◌∙◌, append-nil, append_assoc}
+use Rattle.std.specs.Prelude.{All, IfSome}
+use Rattle.std.proofs.lemmas.List.Elements.{All-head, All-tail}
 use Rattle.r2_base.specs.declared.event.Event.{Event}
 use Rattle.hc_log.specs.declared.record.Record.{Record}
-use Rattle.hc_log.specs.Durable.{State, begun, replay, IsNext, IsHistory}
-use Rattle.hc_log.specs.Durable as log
-use Rattle.hc_log.proofs.Replays.{replay_push, replay_none, history_none, IsHistory-push, IsValid-begun}
-use Rattle.hc_pool.specs.Pool.{IsPool}
+use Rattle.hc_log.specs.Durable.{State, begun, replay, IsHistory}
+use Rattle.hc_log.proofs.Replays.{replay_none, history_none, IsValid-begun}
+use Rattle.hc_member.specs.declared.setup.Setup.{Setup}
+use Rattle.hc_member.specs.Laws.{HasBytes}
+use Rattle.hc_member.specs.Member.{Member, anew, beginning, durable_of, restarted}
+use Rattle.hc_member.specs.Setup.{IsSetup}
+use Rattle.hc_member.specs.Sound.{IsSound}
+use Rattle.hc_member.specs.Turn.{turned}
+use Rattle.hc_member.proofs.Begun.{sound-anew, sound-restarted}
+use Rattle.hc_member.proofs.Turned.{turns_go_well}
 use Rattle.cmd_script.specs.declared.line.Line.{Line}
 use Rattle.cmd_script.specs.declared.line.Line.TheVariants.{Restart}
-use Rattle.cmd_replay.specs.declared.setup.Setup.{Setup}
-use Rattle.cmd_replay.specs.declared.member.Member.{Member}
-use Rattle.cmd_replay.specs.Durable.{durable_of, LeadsTo}
-use Rattle.cmd_replay.specs.Member.{anew, begin, restarted, IsOrderly}
-use Rattle.cmd_replay.specs.Replay.{IsAlone}
-use Rattle.cmd_replay.specs.Turn.{turned}
-use Rattle.cmd_replay.specs.Script.{event_of, turn_at, line_turn, after}
-use Rattle.cmd_replay.specs.Records.{stored_list, records_of, IsRecorded}
-use Rattle.cmd_replay.specs.Laws.{RecordsLeadToTheMember}
+use Rattle.cmd_replay.specs.Laws.{HasLineBytes, RecordsLeadToTheMember}
+use Rattle.cmd_replay.specs.Replica.{stored_list}
+use Rattle.cmd_replay.specs.Script.{after, event_of, line_turn, records_of, turn_at}
+use Rattle.cmd_replay.proofs.Records.{history-more, state-more}
+use Rattle.cmd_replay.proofs.Replicas.{durable-anew}
 use Rattle.cmd_replay.proofs.Runs.{after-append}
-use Rattle.cmd_replay.proofs.Sound.{sound-begin, sound-restarted}
-use Rattle.cmd_replay.proofs.Growth.{sound-turned}
-use Rattle.cmd_replay.proofs.Storing.{orderly-turned, leads-turned}
 
--- a pool without requests
-no_requests : IsPool []
-no_requests = record { requests = λ k d h. absurd (omega (arith, h)); ids = λ i j d before h. absurd (omega (arith, h)) }
+-- a member, and records that lead to it
+record HasRecords (s : Setup) (m : Member) (records : List Record) : Type 0 where
+  sound : IsSound s m
+  history : IsHistory records
+  state : replay records ≡ durable_of m
 
--- a member that begins with a valid durable state is orderly
-orderly-anew : (d : State) → log.IsValid d → IsOrderly (anew d)
-unfolding anew
-orderly-anew d valid =
-    record { valid = valid; pool = no_requests; apart = λ k r h. absurd (omega (arith, h)); few = omega arith; leads = λ some. absurd (omega (arith, some)) }
-
-orderly-restarted : (m : Member) → IsOrderly m → IsOrderly (restarted m)
-orderly-restarted m h = orderly-anew (durable_of m) h.valid
-
-durable-anew : (d : State) → durable_of (anew d) ≡ d
-unfolding anew
-durable-anew d = refl
-
--- what was stored, after records that led to the state before it
-history-more : (records : List Record) (d e : State) (stored : Option Record) → LeadsTo d stored e → IsHistory records → replay records ≡ d → IsHistory (records ++ stored_list stored)
-history-more records d e None leads history state = subst IsHistory (sym (append-nil records)) history
-history-more records d e (Some r) leads history state = IsHistory-push records r history (subst (λ (x : State). IsNext x r) (sym state) leads.0)
-
-state-more : (records : List Record) (d e : State) (stored : Option Record) → LeadsTo d stored e → replay records ≡ d → replay (records ++ stored_list stored) ≡ e
-state-more records d e None leads state = ap replay (append-nil records) ∙ state ∙ sym leads
-state-more records d e (Some r) leads state = replay_push records r ∙ ap (λ (x : State). log.after x r) state ∙ leads.1
-
-module _ (s : Setup) (alone : IsAlone s) where
-  -- a turn, and its record after the others
-  pub recorded-turned : (m : Member) (event : Event) (records : List Record) → IsRecorded s m records
-      → IsRecorded s (turned s m event).member (records ++ stored_list (turned s m event).stored)
-  recorded-turned m event records h =
+module _ (s : Setup) (group : IsSetup s) where
+  recorded-at : (m : Member) (o : Option Event) (records : List Record) → IfSome o HasBytes → HasRecords s m records
+      → HasRecords s (turn_at s m o).member (records ++ stored_list (turn_at s m o).stored)
+  recorded-at m (Some event) records are h =
       let t = turned s m event in
-      let leads = leads-turned s alone m event h.sound h.orderly in
+      let well = turns_go_well s m event group h.sound are in
       record {
-        sound = sound-turned s m event h.sound;
-        orderly = orderly-turned s alone m event h.sound h.orderly;
-        history = history-more records (durable_of m) (durable_of t.member) t.stored leads h.history h.state;
-        state = state-more records (durable_of m) (durable_of t.member) t.stored leads h.state;
+        sound = well.sound;
+        history = history-more records (durable_of m) (durable_of t.member) t.stored well.stores h.history h.state;
+        state = state-more records (durable_of m) (durable_of t.member) t.stored well.stores h.state;
       }
-
-  -- a restart
-  pub recorded-restarted : (m : Member) (records : List Record) → IsRecorded s m records → IsRecorded s (restarted m) records
-  recorded-restarted m records h =
+  recorded-at m None records are h =
+      let same : HasRecords s (restarted m) records =
       record {
         sound = sound-restarted s m h.sound;
-        orderly = orderly-restarted m h.orderly;
         history = h.history;
         state = h.state ∙ sym (durable-anew (durable_of m));
-      }
+      } in
+      subst (HasRecords s (restarted m)) (sym (append-nil records)) same
 
-  recorded-at : (m : Member) (o : Option Event) (records : List Record) → IsRecorded s m records
-      → IsRecorded s (turn_at s m o).member (records ++ stored_list (turn_at s m o).stored)
-  recorded-at m (Some event) records h = recorded-turned m event records h
-  recorded-at m None records h = subst (IsRecorded s (restarted m)) (sym (append-nil records)) (recorded-restarted m records h)
-
-  recorded-after : (m : Member) (lines : List Line) (records : List Record) → IsRecorded s m records → IsRecorded s (after s m lines) (records ++ records_of s m lines)
+  recorded-after : (m : Member) (lines : List Line) (records : List Record) → All (HasLineBytes s) lines → HasRecords s m records
+      → HasRecords s (after s m lines) (records ++ records_of s m lines)
   unfolding after records_of line_turn
-  recorded-after m [] records h = subst (IsRecorded s m) (sym (append-nil records)) h
-  recorded-after m (line ∷ lines) records h =
+  recorded-after m [] records are h = subst (HasRecords s m) (sym (append-nil records)) h
+  recorded-after m (line ∷ lines) records are h =
       let t = line_turn s m line in
-      subst (IsRecorded s (after s t.member lines)) (append_assoc records (stored_list t.stored) (records_of s t.member lines))
-      (recorded-after t.member lines (records ++ stored_list t.stored) (recorded-at m (event_of s line) records h))
+      subst (HasRecords s (after s t.member lines)) (append_assoc records (stored_list t.stored) (records_of s t.member lines))
+      (recorded-after t.member lines (records ++ stored_list t.stored) (All-tail (HasLineBytes s) line lines are)
+      (recorded-at m (event_of s line) records (All-head (HasLineBytes s) line lines are) h))
 
 -- nothing was stored yet
-pub recorded-begin : (s : Setup) → IsRecorded s begin []
-recorded-begin s =
-    record { sound = sound-begin s; orderly = orderly-anew begun IsValid-begun; history = history_none; state = replay_none ∙ sym (durable-anew begun) }
+recorded-begin : (s : Setup) → HasRecords s beginning []
+recorded-begin s = record { sound = sound-anew s begun IsValid-begun; history = history_none; state = replay_none ∙ sym (durable-anew begun) }
 
 after-restart : (s : Setup) (m : Member) → after s m (Restart ∷ []) ≡ restarted m
 unfolding after line_turn
 after-restart s m = refl
 
 pub records_lead_to_the_member : RecordsLeadToTheMember
-records_lead_to_the_member s lines alone =
-    let whole = recorded-after s alone begin lines [] (recorded-begin s) in
+records_lead_to_the_member s lines group are =
+    let whole = recorded-after s group beginning lines [] are (recorded-begin s) in
     record {
+      sound = whole.sound;
       history = whole.history;
       state = whole.state;
-      restart = after-append s begin lines (Restart ∷ []) ∙ after-restart s (after s begin lines) ∙ ap anew (sym whole.state);
+      restart = after-append s beginning lines (Restart ∷ []) ∙ after-restart s (after s beginning lines) ∙ ap anew (sym whole.state);
     }

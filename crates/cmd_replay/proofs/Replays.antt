@@ -9,16 +9,15 @@ use Rattle.cmd_lines.specs.declared.line_fault.LineFault.TheVariants.{Source, Me
 use Rattle.cmd_lines.specs.Faults.{status_of}
 use Rattle.cmd_lines.specs.Limits.{most_line}
 use Rattle.cmd_lines.specs.Reader.{KnowsEnd, ReaderState, ReadsLine}
-use Rattle.cmd_lines.specs.Script.{IsFront}
+use Rattle.cmd_lines.specs.Script.{IsPrefix}
 use Rattle.cmd_lines.proofs.Grammar.{never_stuck}
-use Rattle.cmd_lines.proofs.Places.{EndsHere, LinePlace, Place, at-first, fault-read, fresh, front-before, next-of, none-read, place-then, took-of}
+use Rattle.cmd_lines.proofs.Places.{EndsHere, LinePlace, Place, at-first, fault-read, fresh, prefix-before, next-of, none-read, place-then, took-of}
 use Rattle.cmd_lines.proofs.Reading.{IsNeeded-none}
 use Rattle.cmd_lines.proofs.Texts.{fed-none}
-use Rattle.cmd_replay.specs.declared.setup.Setup.{Setup}
-use Rattle.cmd_replay.specs.declared.member.Member.{Member}
+use Rattle.hc_member.specs.declared.setup.Setup.{Setup}
+use Rattle.hc_member.specs.Member.{Member, beginning}
 use Rattle.cmd_status.specs.declared.status.Status.{Status}
 use Rattle.cmd_status.specs.declared.status.Status.TheVariants.{Done, BadScript, Memory, SourceFault, SinkFault, TurnsSpent}
-use Rattle.cmd_replay.specs.Member.{begin}
 use Rattle.cmd_replay.specs.Script.{after, last_text, line_turn, line_text, script_text, turns_text}
 use Rattle.cmd_replay.proofs.Runs.{after-append}
 use Rattle.cmd_replay.specs.Running.{ClosesScript, CutsText, Ran, StopsText}
@@ -41,7 +40,7 @@ after-none : (s : Setup) (m : Member) → after s m [] ≡ m
 unfolding after
 after-none s m = refl
 
-script_text-is : (s : Setup) (lines : List Line) → script_text s lines ≡ turns_text s begin lines ++ last_text s (after s begin lines)
+script_text-is : (s : Setup) (lines : List Line) → script_text s lines ≡ turns_text s beginning lines ++ last_text s (after s beginning lines)
 unfolding script_text
 script_text-is s lines = refl
 
@@ -52,8 +51,8 @@ written-then s m n first second at = ap (λ (x : Member). turns_text s m first +
 
 -- the lines that were taken were run
 pub record HasRun (s : Setup) (m : Member) (lines : List Line) (old new : Option (List ℕ)) : Type 0 where
-  pub at : m ≡ after s begin lines
-  pub gave : Appends old new (turns_text s begin lines)
+  pub at : m ≡ after s beginning lines
+  pub gave : Appends old new (turns_text s beginning lines)
 
 -- a replay between two lines
 pub record IsHere (s : Setup) (m : Member) (left left' : Option (List ℕ)) (r : ReaderState) (old new : Option (List ℕ)) : Type 0 where
@@ -64,12 +63,12 @@ pub record IsHere (s : Setup) (m : Member) (left left' : Option (List ℕ)) (r :
   pub knows : KnowsEnd r left'
 
 -- before the first line
-pub here-first : (s : Setup) (left a : Option (List ℕ)) → IsHere s begin left left (fresh most_line) a a
+pub here-first : (s : Setup) (left a : Option (List ℕ)) → IsHere s beginning left left (fresh most_line) a a
 here-first s left a = record {
   lines = [];
   taken = [];
   place = at-first most_line IsLine left;
-  ran = record { at = sym (after-none s begin); gave = subst (Appends a a) (sym (turns_text-none s begin)) (Appends-nil a) };
+  ran = record { at = sym (after-none s beginning); gave = subst (Appends a a) (sym (turns_text-none s beginning)) (Appends-nil a) };
   knows = λ e. absurd (cc (e));
 }
 
@@ -81,14 +80,14 @@ module _ (s : Setup) (m : Member) (left left' : Option (List ℕ)) (lines : List
     taken = taken;
     place = place-then most_line IsLine left left' r taken lines next.lines text place next.said;
     ran = record {
-      at = next.at ∙ ap (λ (x : Member). after s x next.lines) ran.at ∙ sym (after-append s begin lines next.lines);
-      gave = subst (Appends a c) (written-then s begin m lines next.lines ran.at) (Appends-trans a b c _ _ ran.gave next.gave);
+      at = next.at ∙ ap (λ (x : Member). after s x next.lines) ran.at ∙ sym (after-append s beginning lines next.lines);
+      gave = subst (Appends a c) (written-then s beginning m lines next.lines ran.at) (Appends-trans a b c _ _ ran.gave next.gave);
     };
     knows = knows;
   }
 
-  kept : Appends b c [] → Appends a c (turns_text s begin lines)
-  kept nothing = subst (Appends a c) (append-nil (turns_text s begin lines)) (Appends-trans a b c (turns_text s begin lines) [] ran.gave nothing)
+  kept : Appends b c [] → Appends a c (turns_text s beginning lines)
+  kept nothing = subst (Appends a c) (append-nil (turns_text s beginning lines)) (Appends-trans a b c (turns_text s beginning lines) [] ran.gave nothing)
 
   -- a prefix of what the line prints was written
   cuts : (r : ReaderState) (taken text : List ℕ) (number : ℕ) → LinePlace most_line IsLine left left' r taken lines text → number ≡ r.lines → CutsText s m text b c → CutsLine s left' taken a c
@@ -99,10 +98,10 @@ module _ (s : Setup) (m : Member) (left left' : Option (List ℕ)) (lines : List
     next = next-of most_line IsLine left left' r taken lines text number place cut.nonempty is;
     line = cut.line;
     said = cut.said;
-    front = cut.front.front;
-    rest = cut.front.rest;
-    split = subst (λ (x : Member). line_text s x cut.line ≡ cut.front.front ++ cut.front.rest) ran.at cut.front.split;
-    gave = Appends-trans a b c (turns_text s begin lines) cut.front.front ran.gave cut.front.gave;
+    prefix = cut.prefix.prefix;
+    rest = cut.prefix.rest;
+    split = subst (λ (x : Member). line_text s x cut.line ≡ cut.prefix.prefix ++ cut.prefix.rest) ran.at cut.prefix.split;
+    gave = Appends-trans a b c (turns_text s beginning lines) cut.prefix.prefix ran.gave cut.prefix.gave;
   }
 
   -- a line wasn't run to its end
@@ -122,7 +121,7 @@ module _ (s : Setup) (m : Member) (left left' : Option (List ℕ)) (lines : List
   text-stops r taken text number Memory place is (inl still) = record {
     taken = taken;
     took = took-of most_line IsLine left left' r taken lines text place;
-    did = inl (record { lines = lines; ends = inl (front-before most_line IsLine left left' r taken lines text place); gave = kept (Appends-kept b b c [] (Appends-nil b) still) });
+    did = inl (record { lines = lines; ends = inl (prefix-before most_line IsLine left left' r taken lines text place); gave = kept (Appends-kept b b c [] (Appends-nil b) still) });
   }
   text-stops r taken text number Memory place is (inr cut) =
       record { taken = taken; took = took-of most_line IsLine left left' r taken lines text place; did = inr (inl (cuts r taken text number place is cut)) }
@@ -136,7 +135,7 @@ module _ (s : Setup) (m : Member) (left left' : Option (List ℕ)) (lines : List
     did = record {
       lines = lines;
       whole = here.ends;
-      gave = subst (Appends a c) (ap (λ (x : Member). turns_text s begin lines ++ last_text s x) ran.at ∙ sym (script_text-is s lines)) (Appends-trans a b c _ _ ran.gave gave);
+      gave = subst (Appends a c) (ap (λ (x : Member). turns_text s beginning lines ++ last_text s x) ran.at ∙ sym (script_text-is s lines)) (Appends-trans a b c _ _ ran.gave gave);
     };
   }
   closes SinkFault here cut = record {
@@ -145,10 +144,10 @@ module _ (s : Setup) (m : Member) (left left' : Option (List ℕ)) (lines : List
     did = inr (record {
       lines = lines;
       whole = here.ends;
-      front = cut.front;
+      prefix = cut.prefix;
       rest = cut.rest;
-      split = subst (λ (x : Member). last_text s x ≡ cut.front ++ cut.rest) ran.at cut.split;
-      gave = Appends-trans a b c (turns_text s begin lines) cut.front ran.gave cut.gave;
+      split = subst (λ (x : Member). last_text s x ≡ cut.prefix ++ cut.rest) ran.at cut.split;
+      gave = Appends-trans a b c (turns_text s beginning lines) cut.prefix ran.gave cut.gave;
     });
   }
   closes Memory here cut = record {
@@ -157,17 +156,17 @@ module _ (s : Setup) (m : Member) (left left' : Option (List ℕ)) (lines : List
     did = inr (inr (record {
       lines = lines;
       whole = here.ends;
-      front = cut.front;
+      prefix = cut.prefix;
       rest = cut.rest;
-      split = subst (λ (x : Member). last_text s x ≡ cut.front ++ cut.rest) ran.at cut.split;
-      gave = Appends-trans a b c (turns_text s begin lines) cut.front ran.gave cut.gave;
+      split = subst (λ (x : Member). last_text s x ≡ cut.prefix ++ cut.rest) ran.at cut.split;
+      gave = Appends-trans a b c (turns_text s beginning lines) cut.prefix ran.gave cut.gave;
     }));
   }
   closes _ here gave = absurd gave
 
 -- the next line can't be had
 ends-so : (s : Setup) (left left' a b : Option (List ℕ)) (lines : List Line) (fault : LineFault) (number : ℕ)
-    → EndsHere most_line IsLine left left' lines (status_of fault number) → Appends a b (turns_text s begin lines) → IsReplay s left left' a b (status_of fault number)
+    → EndsHere most_line IsLine left left' lines (status_of fault number) → Appends a b (turns_text s beginning lines) → IsReplay s left left' a b (status_of fault number)
 ends-so s left left' a b lines Source number here gave = record { taken = here.taken; took = here.took; did = record { lines = lines; ends = here.ends; gave = gave } }
 ends-so s left left' a b lines NoRoom number here gave = record { taken = here.taken; took = here.took; did = inl (record { lines = lines; ends = here.ends; gave = gave }) }
 ends-so s left left' a b lines TooLong number here gave = record { taken = here.taken; took = here.took; did = record { lines = lines; ends = here.ends; gave = gave } }
@@ -189,7 +188,7 @@ closed s m left b left' r t a c d status here read knows end =
 pub nothing-of : (s : Setup) (left a : Option (List ℕ)) → IsReplay s left left a a Memory
 unfolding turns_text
 nothing-of s left a =
-    let none : IsFront most_line IsLine [] [] = record { texts = []; rest = []; each = λ k d h. absurd (omega (arith, h)); said = refl; split = sym (append-nil _ ∙ fed-none); needed = IsNeeded-none most_line } in
+    let none : IsPrefix most_line IsLine [] [] = record { texts = []; rest = []; each = λ k d h. absurd (omega (arith, h)); said = refl; split = sym (append-nil _ ∙ fed-none); needed = IsNeeded-none most_line } in
     record { taken = []; took = Consumes-nil left; did = inl (record { lines = []; ends = inl none; gave = Appends-nil a }) }
 
 -- a script in its grammar is run to its end, unless something failed

@@ -4,17 +4,17 @@ use Rattle.std.specs.Prelude.{Bool, false, ◌==◌}
 use Rattle.std.proofs.lemmas.Bool.{eqb-true}
 use Rattle.std.proofs.lemmas.List.{nil_from_length}
 use Rattle.std.specs.Io.KnownBytes.{Appends}
-use Rattle.r2_link.specs.Streams.{AppendsFront}
+use Rattle.r2_link.specs.Streams.{AppendsPrefix}
 use Rattle.r2_link.proofs.Streams.{Appends-nil}
 use Rattle.cmd_script.specs.declared.line.Line.{Line}
-use Rattle.cmd_replay.specs.declared.setup.Setup.{Setup}
-use Rattle.cmd_replay.specs.declared.member.Member.{Member}
+use Rattle.hc_member.specs.declared.setup.Setup.{Setup}
+use Rattle.hc_member.specs.Member.{Member}
 use Rattle.cmd_status.specs.declared.status.Status.{Status}
 use Rattle.cmd_status.specs.declared.status.Status.TheVariants.{Memory, SinkFault}
 use Rattle.cmd_script.specs.Line.{IsLine}
 use Rattle.cmd_status.specs.Stops.{StopsBySink}
-use Rattle.cmd_replay.specs.Script.{after, line_turn, turn_at, line_text, turns_text, event_of}
-use Rattle.cmd_replay.specs.Turn.{Reacted, turned}
+use Rattle.hc_member.specs.Turn.{Reacted, turned}
+use Rattle.cmd_replay.specs.Script.{after, line_turn, turn_at, line_text, reacted_text, turns_text, event_of}
 use Rattle.r2_base.specs.declared.event.Event.{Event}
 use Rattle.cmd_replay.specs.Printed.{turn_text}
 use Rattle.cmd_replay.specs.Running.{Ran, StopsText}
@@ -38,14 +38,14 @@ line_turn-at s m line o is = ap (turn_at s m) is
 
 -- a line with an event prints its turn
 pub line_text-at : (s : Setup) (m : Member) (line : Line) (event : Event) → event_of s line ≡ Some event
-    → turn_text (turned s m event).stored (turned s m event).sends ≡ line_text s m line
+    → reacted_text s (turned s m event) ≡ line_text s m line
 unfolding line_text
-line_text-at s m line event is = sym (ap (λ (x : Reacted). turn_text x.stored x.sends) (line_turn-at s m line (Some event) is))
+line_text-at s m line event is = sym (ap (reacted_text s) (line_turn-at s m line (Some event) is))
 
 -- a restart prints nothing
 pub line_text-none : (s : Setup) (m : Member) (line : Line) → event_of s line ≡ None → line_text s m line ≡ []
 unfolding line_text turn_text
-line_text-none s m line is = ap (λ (x : Reacted). turn_text x.stored x.sends) (line_turn-at s m line None is)
+line_text-none s m line is = ap (reacted_text s) (line_turn-at s m line None is)
 
 turns_text-one : (s : Setup) (m : Member) (line : Line) → line_text s m line ≡ turns_text s m (line ∷ [])
 unfolding turns_text
@@ -72,10 +72,10 @@ ran-line s m n text line old new some is at gave = record {
 
 -- printing what a line prints was cut short
 pub stops-line : (s : Setup) (m : Member) (text : List ℕ) (line : Line) (number : ℕ) (old new : Option (List ℕ)) (faults faults' : ℕ) (status : Status)
-    → StopsBySink faults faults' status → text ≢ [] → IsLine text line → AppendsFront old new (line_text s m line) → StopsText s m text number old new status
-stops-line s m text line number old new f f' SinkFault why some is front = record { nonempty = some; line = line; said = is; front = front }
-stops-line s m text line number old new f f' Memory why some is front = inr (record { nonempty = some; line = line; said = is; front = front })
-stops-line s m text line number old new f f' _ why some is front = absurd why
+    → StopsBySink faults faults' status → text ≢ [] → IsLine text line → AppendsPrefix old new (line_text s m line) → StopsText s m text number old new status
+stops-line s m text line number old new f f' SinkFault why some is prefix = record { nonempty = some; line = line; said = is; prefix = prefix }
+stops-line s m text line number old new f f' Memory why some is prefix = inr (record { nonempty = some; line = line; said = is; prefix = prefix })
+stops-line s m text line number old new f f' _ why some is prefix = absurd why
 
 -- what a test for an empty text shows
 pub empty_text : (text : List ℕ) (b : Bool) → b ≡ (length text == 0) → b ≡ true → text ≡ []

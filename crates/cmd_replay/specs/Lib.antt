@@ -1,11 +1,6 @@
-pub mod Durable
-pub mod Queues
-pub mod Member
 pub mod Printed
-pub mod Heard
-pub mod Turn
 pub mod Script
-pub mod Records
+pub mod Replica
 pub mod Replay
 pub mod Running
 pub mod Grammar

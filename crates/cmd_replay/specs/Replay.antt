@@ -1,25 +1,15 @@
 -- What the replay of a script has taken, what it has written, and why it ended.
-use Rattle.std.specs.Prelude.{◌≡◌, ◌⊎◌, ℕ, ◌≤◌, List, ◌++◌, length, Option, None}
+use Rattle.std.specs.Prelude.{◌≡◌, ◌⊎◌, ℕ, List, ◌++◌, Option}
 use Rattle.std.specs.Io.KnownBytes.{Consumes, Appends}
 use Rattle.cmd_script.specs.declared.line.Line.{Line}
 use Rattle.cmd_script.specs.Line.{IsLine}
 use Rattle.cmd_lines.specs.Limits.{most_line}
 use Rattle.cmd_lines.specs.Script.{EndsBetween, IsNext, IsWhole}
-use Rattle.cmd_replay.specs.declared.setup.Setup.{Setup}
+use Rattle.hc_member.specs.declared.setup.Setup.{Setup}
+use Rattle.hc_member.specs.Member.{beginning}
 use Rattle.cmd_status.specs.declared.status.Status.{Status}
 use Rattle.cmd_status.specs.declared.status.Status.TheVariants.{Done, Memory, SinkFault, TurnsSpent}
-use Rattle.cmd_replay.specs.Member.{begin}
 use Rattle.cmd_replay.specs.Script.{after, last_text, line_text, script_text, turns_text}
-
--- a group of one member, without an aggregator
-pub record IsAlone (s : Setup) : Type 0 where
-  pub one : length s.members ≡ 1
-  pub first : s.me ≡ 0
-  pub direct : s.aggregator ≡ None
-  pub bound_low : 1 ≤ s.bound
-  pub bound_high : s.bound ≤ 1024
-  pub election_low : 1 ≤ s.election
-  pub election_high : s.election ≤ 1000
 
 -- the whole script was run
 pub record RunsWhole (s : Setup) (left : Option (List ℕ)) (taken : List ℕ) (old new : Option (List ℕ)) : Type 0 where
@@ -31,7 +21,7 @@ pub record RunsWhole (s : Setup) (left : Option (List ℕ)) (taken : List ℕ) (
 pub record RunsBetween (s : Setup) (left : Option (List ℕ)) (taken : List ℕ) (old new : Option (List ℕ)) (status : Status) : Type 0 where
   pub lines : List Line
   pub ends : EndsBetween most_line IsLine left taken lines status
-  pub gave : Appends old new (turns_text s begin lines)
+  pub gave : Appends old new (turns_text s beginning lines)
 
 -- the lines before this one were run whole, and a prefix was written of what it prints
 pub record CutsLine (s : Setup) (left : Option (List ℕ)) (taken : List ℕ) (old new : Option (List ℕ)) : Type 0 where
@@ -41,19 +31,19 @@ pub record CutsLine (s : Setup) (left : Option (List ℕ)) (taken : List ℕ) (o
   pub next : IsNext most_line IsLine left taken lines text number
   pub line : Line
   pub said : IsLine text line
-  pub front : List ℕ
+  pub prefix : List ℕ
   pub rest : List ℕ
-  pub split : line_text s (after s begin lines) line ≡ front ++ rest
-  pub gave : Appends old new (turns_text s begin lines ++ front)
+  pub split : line_text s (after s beginning lines) line ≡ prefix ++ rest
+  pub gave : Appends old new (turns_text s beginning lines ++ prefix)
 
 -- all lines were run whole, and a prefix was written of what is printed after the last one
 pub record CutsEnd (s : Setup) (left : Option (List ℕ)) (taken : List ℕ) (old new : Option (List ℕ)) : Type 0 where
   pub lines : List Line
   pub whole : IsWhole most_line IsLine left taken lines
-  pub front : List ℕ
+  pub prefix : List ℕ
   pub rest : List ℕ
-  pub split : last_text s (after s begin lines) ≡ front ++ rest
-  pub gave : Appends old new (turns_text s begin lines ++ front)
+  pub split : last_text s (after s beginning lines) ≡ prefix ++ rest
+  pub gave : Appends old new (turns_text s beginning lines ++ prefix)
 
 -- what was taken and what was written, by the status: what the source has left, what was taken, what the sink had and has
 abbrev pub Replays : Setup → Option (List ℕ) → List ℕ → Option (List ℕ) → Option (List ℕ) → Status → Type 0

@@ -1,12 +1,12 @@
 -- What the replay of a script does at one of its lines.
 use Rattle.std.specs.Prelude.{◌≡◌, ◌≢◌, ◌⊎◌, ℕ, List, [], ◌∷◌, Option}
 use Rattle.std.specs.Io.KnownBytes.{Appends, Keeps}
-use Rattle.r2_link.specs.Streams.{AppendsFront}
+use Rattle.r2_link.specs.Streams.{AppendsPrefix}
 use Rattle.cmd_script.specs.declared.line.Line.{Line}
 use Rattle.cmd_script.specs.Line.{IsLine}
 use Rattle.cmd_lines.specs.Script.{IsOutside, Say}
-use Rattle.cmd_replay.specs.declared.setup.Setup.{Setup}
-use Rattle.cmd_replay.specs.declared.member.Member.{Member}
+use Rattle.hc_member.specs.declared.setup.Setup.{Setup}
+use Rattle.hc_member.specs.Member.{Member}
 use Rattle.cmd_status.specs.declared.status.Status.{Status}
 use Rattle.cmd_status.specs.declared.status.Status.TheVariants.{BadScript, Done, Memory, SinkFault}
 use Rattle.cmd_replay.specs.Script.{after, line_text, turns_text}
@@ -30,7 +30,7 @@ pub record CutsText (s : Setup) (m : Member) (text : List ℕ) (old new : Option
   pub nonempty : text ≢ []
   pub line : Line
   pub said : IsLine text line
-  pub front : AppendsFront old new (line_text s m line)
+  pub prefix : AppendsPrefix old new (line_text s m line)
 
 -- why the text with this number wasn't run to its end
 abbrev pub StopsText : Setup → Member → List ℕ → ℕ → Option (List ℕ) → Option (List ℕ) → Status → Type 0
@@ -42,6 +42,6 @@ StopsText s m text number old new _ = ⊥
 -- what is printed after the last line was written, or a prefix of it
 abbrev pub ClosesScript : Option (List ℕ) → Option (List ℕ) → List ℕ → Status → Type 0
 ClosesScript old new text Done = Appends old new text
-ClosesScript old new text SinkFault = AppendsFront old new text
-ClosesScript old new text Memory = AppendsFront old new text
+ClosesScript old new text SinkFault = AppendsPrefix old new text
+ClosesScript old new text Memory = AppendsPrefix old new text
 ClosesScript old new text _ = ⊥

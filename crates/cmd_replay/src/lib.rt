@@ -1,19 +1,12 @@
-//! The replay of a script by a replica that is alone in its group.
+//! The replay of a script by a replica of a group.
 #![tactic(auto)]
 
-mod heard;
 pub mod laws;
-mod log_steps;
-mod member;
+mod lines;
 mod print;
-mod queues;
-mod receiving;
-mod recording;
 mod replaying;
-mod replies;
+mod replica;
 mod running;
-mod setup;
-mod turns;
 
+pub use hc_node::Setup;
 pub use replaying::replay;
-pub use setup::Setup;

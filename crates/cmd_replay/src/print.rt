@@ -1,7 +1,7 @@
 ghost use Rattle.std.specs.Prelude.{◌≡◌, ◌≤◌, IfOk, IfErr, IfSome, OnOk};
 ghost use Rattle.std.specs.Io.KnownBytes.{Appends};
 ghost use Rattle.std.specs.List.{flat_map};
-ghost use Rattle.r2_link.specs.Streams.{AppendsFront};
+ghost use Rattle.r2_link.specs.Streams.{AppendsPrefix};
 ghost use Rattle.hc_log.specs.Ranges.{IsInRange};
 ghost use Rattle.cmd_replay.specs.Printed.{stored_text, turn_text};
 ghost use Rattle.cmd_script.specs.Printed.{out_text};
@@ -24,7 +24,7 @@ pub(crate) fn print_turn<K: Sink>(
 ) -> Result<(), Status>
     requires { IfSome stored.now IsInRange }
     ensures whole { OnOk result (Appends (K.written sink.old) (K.written sink.new) (turn_text stored.now sends.now)) }
-    ensures front { AppendsFront (K.written sink.old) (K.written sink.new) (turn_text stored.now sends.now) }
+    ensures prefix { AppendsPrefix (K.written sink.old) (K.written sink.new) (turn_text stored.now sends.now) }
     ensures stops { IfErr result (λ status. StopsBySink (K.faults sink.old) (K.faults sink.new) status) }
     ensures steady { K.faults sink.old ≤ K.faults sink.new }
 {
@@ -37,7 +37,7 @@ pub(crate) fn print_turn<K: Sink>(
 fn print_stored<K: Sink>(alloc: Global, sink: &mut K, stored: &Option<Record>) -> Result<(), Status>
     requires { IfSome stored.now IsInRange }
     ensures whole { OnOk result (Appends (K.written sink.old) (K.written sink.new) (stored_text stored.now)) }
-    ensures front { AppendsFront (K.written sink.old) (K.written sink.new) (stored_text stored.now) }
+    ensures prefix { AppendsPrefix (K.written sink.old) (K.written sink.new) (stored_text stored.now) }
     ensures stops { IfErr result (λ status. StopsBySink (K.faults sink.old) (K.faults sink.new) status) }
     ensures steady { K.faults sink.old ≤ K.faults sink.new }
 {
@@ -55,7 +55,7 @@ fn print_stored<K: Sink>(alloc: Global, sink: &mut K, stored: &Option<Record>) -
 
 fn print_sends<K: Sink>(alloc: Global, sink: &mut K, sends: &[Datagram]) -> Result<(), Status>
     ensures whole { OnOk result (Appends (K.written sink.old) (K.written sink.new) (flat_map out_text sends.now)) }
-    ensures front { AppendsFront (K.written sink.old) (K.written sink.new) (flat_map out_text sends.now) }
+    ensures prefix { AppendsPrefix (K.written sink.old) (K.written sink.new) (flat_map out_text sends.now) }
     ensures stops { IfErr result (λ status. StopsBySink (K.faults sink.old) (K.faults sink.new) status) }
     ensures steady { K.faults sink.old ≤ K.faults sink.new }
 {
@@ -69,7 +69,7 @@ fn print_sends<K: Sink>(alloc: Global, sink: &mut K, sends: &[Datagram]) -> Resu
 
 fn print_send<K: Sink>(alloc: Global, sink: &mut K, datagram: &Datagram) -> Result<(), Status>
     ensures whole { OnOk result (Appends (K.written sink.old) (K.written sink.new) (out_text datagram.now)) }
-    ensures front { AppendsFront (K.written sink.old) (K.written sink.new) (out_text datagram.now) }
+    ensures prefix { AppendsPrefix (K.written sink.old) (K.written sink.new) (out_text datagram.now) }
     ensures stops { IfErr result (λ status. StopsBySink (K.faults sink.old) (K.faults sink.new) status) }
     ensures steady { K.faults sink.old ≤ K.faults sink.new }
 {
@@ -81,7 +81,7 @@ fn print_send<K: Sink>(alloc: Global, sink: &mut K, datagram: &Datagram) -> Resu
 
 fn print_line<K: Sink>(sink: &mut K, line: &[u8]) -> Result<(), Status>
     ensures whole { OnOk result (Appends (K.written sink.old) (K.written sink.new) line.now) }
-    ensures front { AppendsFront (K.written sink.old) (K.written sink.new) line.now }
+    ensures prefix { AppendsPrefix (K.written sink.old) (K.written sink.new) line.now }
     ensures stops { IfErr result (λ status. StopsBySink (K.faults sink.old) (K.faults sink.new) status) }
     ensures steady { K.faults sink.old ≤ K.faults sink.new }
 {

@@ -1,82 +1,67 @@
-ghost use Rattle.std.specs.Prelude.{◌≡◌, ◌≤◌, ℕ, List, Some};
-ghost use Rattle.r2_link.specs.Faults.{Rose};
+ghost use Rattle.std.specs.Prelude.{◌≡◌, ℕ, List, Some};
+ghost use Rattle.r2_link.specs.Faults.{NoneFalls, Rose, calm};
+ghost use Rattle.cmd_status.specs.Causes.{IsCaused};
+ghost use Rattle.hc_member.specs.Member.{beginning};
+ghost use Rattle.hc_member.specs.Setup.{IsSetup};
 ghost use Rattle.cmd_replay.specs.Grammar.{IsScript};
-ghost use Rattle.cmd_replay.specs.Member.{begin, IsSound};
-ghost use Rattle.cmd_replay.specs.Records.{IsRecorded};
-ghost use Rattle.cmd_replay.specs.Replay.{IsAlone, IsComplete, IsReplay};
+ghost use Rattle.cmd_replay.specs.Replay.{IsComplete, IsReplay};
+ghost use Rattle.cmd_replay.specs.Replica.{IsRunning, member_of};
 ghost use Rattle.cmd_replay.specs.Running.{ClosesScript};
 ghost use Rattle.cmd_replay.specs.Script.{last_text};
-ghost use Rattle.cmd_status.specs.declared.status.Status.TheVariants.{SourceFault, SinkFault};
 
-use crate::member::Member;
+use crate::lines::close;
+use crate::replica::Replica;
 use crate::running::run_text;
-use crate::setup::Setup;
-use crate::turns::close;
 use cmd_lines::{LINE_LIMIT, LineReader};
 use cmd_status::Status;
-use hc_journal::Records;
+use hc_node::Setup;
 use r2_link::{Sink, Source};
 use std::alloc::Global;
 
 /// Runs the script line by line. A line that is known is run before more of the source is read.
 fn run_lines<S: Source, K: Sink>(
     alloc: Global,
-    setup: &Setup,
-    member: &mut Member,
-    records: &mut Records,
+    replica: &mut Replica,
     source: &mut S,
     sink: &mut K,
 ) -> Status
-    requires alone { IsAlone setup.now }
-    requires begun { member.old ≡ begin }
-    requires recorded { IsRecorded setup.now member.old records.old }
+    requires runs { IsRunning replica.old }
+    requires begun { member_of replica.old ≡ beginning }
 
-    ensures ran { IsReplay setup.now (S.left source.old) (S.left source.new) (K.written sink.old) (K.written sink.new) result }
+    ensures ran { IsReplay replica.old.setup (S.left source.old) (S.left source.new) (K.written sink.old) (K.written sink.new) result }
 
-    ensures source_fault { result ≡ SourceFault → Rose (S.faults source.old) (S.faults source.new) }
-    ensures sink_fault { result ≡ SinkFault → Rose (K.faults sink.old) (K.faults sink.new) }
-    ensures source_steady { S.faults source.old ≤ S.faults source.new }
-    ensures sink_steady { K.faults sink.old ≤ K.faults sink.new }
+    ensures caused { IsCaused (record calm { source = S.faults source.old; sink = K.faults sink.old }) (record calm { source = S.faults source.new; sink = K.faults sink.new }) result }
+    ensures steady { NoneFalls (record calm { source = S.faults source.old; sink = K.faults sink.old }) (record calm { source = S.faults source.new; sink = K.faults sink.new }) }
 {
     let mut reader = LineReader::new(alloc, LINE_LIMIT);
     'lines: loop {
         let text = match reader.next_line(alloc, source) {
             Ok(Some(text)) => text,
-            Ok(None) => return close_script(alloc, setup, member, sink),
+            Ok(None) => return close_script(alloc, replica, sink),
             Err(fault) => return fault.status(reader.lines() + 1),
         };
         let number = reader.lines();
-        if let Err(status) = run_text(
-            alloc,
-            setup,
-            member,
-            records,
-            text.as_slice(),
-            number,
-            sink,
-        ) {
+        if let Err(status) = run_text(alloc, replica, text.as_slice(), number, sink) {
             return status;
         }
     }
 }
 
 /// Prints what comes after the last line, and says how the run ended.
-fn close_script<K: Sink>(alloc: Global, setup: &Setup, member: &mut Member, sink: &mut K) -> Status
-    requires alone { IsAlone setup.now }
-    requires sound { IsSound setup.now member.old }
+fn close_script<K: Sink>(alloc: Global, replica: &mut Replica, sink: &mut K) -> Status
+    requires { IsRunning replica.old }
 
-    ensures closed { ClosesScript (K.written sink.old) (K.written sink.new) (last_text setup.now member.old) result }
-    ensures no_source { result ≡ SourceFault → ⊥ }
-    ensures sink_fault { result ≡ SinkFault → Rose (K.faults sink.old) (K.faults sink.new) }
-    ensures sink_steady { K.faults sink.old ≤ K.faults sink.new }
+    ensures closed { ClosesScript (K.written sink.old) (K.written sink.new) (last_text replica.old.setup (member_of replica.old)) result }
+    ensures caused { IsCaused (record calm { sink = K.faults sink.old }) (record calm { sink = K.faults sink.new }) result }
+    ensures steady { NoneFalls (record calm { sink = K.faults sink.old }) (record calm { sink = K.faults sink.new }) }
 {
-    match close(alloc, setup, member, sink) {
+    match close(alloc, replica, sink) {
         Ok(()) => Status::Done,
         Err(status) => status,
     }
 }
 
-/// Runs the script that `source` gives, one replica alone in its group, and writes what it prints to `sink`.
+/// Runs the script that `source` gives, one replica of a group, and writes what it prints to `sink`.
 ///
 /// Lines that are known run before more of the source is read; of a turn the record is printed before the datagrams.
 /// Whether the source or the sink failed is reported by the status alone: both stay as their last call left them.
@@ -86,7 +71,7 @@ pub fn replay<S: Source, K: Sink>(
     source: &mut S,
     sink: &mut K,
 ) -> Status
-    requires { IsAlone setup }
+    requires { IsSetup setup }
 
     ensures ran { IsReplay setup (S.left source.old) (S.left source.new) (K.written sink.old) (K.written sink.new) result }
 
@@ -95,14 +80,11 @@ pub fn replay<S: Source, K: Sink>(
     ensures complete { (script : List ℕ) → S.left source.old ≡ Some script → IsScript script
         → (Rose (S.faults source.old) (S.faults source.new) → ⊥) → (Rose (K.faults sink.old) (K.faults sink.new) → ⊥) → IsComplete result }
 
-    ensures source_fault { result ≡ SourceFault → Rose (S.faults source.old) (S.faults source.new) }
-    ensures sink_fault { result ≡ SinkFault → Rose (K.faults sink.old) (K.faults sink.new) }
-    ensures source_steady { S.faults source.old ≤ S.faults source.new }
-    ensures sink_steady { K.faults sink.old ≤ K.faults sink.new }
+    ensures caused { IsCaused (record calm { source = S.faults source.old; sink = K.faults sink.old }) (record calm { source = S.faults source.new; sink = K.faults sink.new }) result }
+    ensures steady { NoneFalls (record calm { source = S.faults source.old; sink = K.faults sink.old }) (record calm { source = S.faults source.new; sink = K.faults sink.new }) }
 {
-    let Ok(mut member) = Member::begin(alloc) else {
+    let Ok(mut replica) = Replica::begin(alloc, setup) else {
         return Status::Memory;
     };
-    let mut records = Records::new(alloc);
-    run_lines(alloc, &setup, &mut member, &mut records, source, sink)
+    run_lines(alloc, &mut replica, source, sink)
 }

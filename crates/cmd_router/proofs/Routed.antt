@@ -3,29 +3,29 @@ use Rattle.std.proofs.Common.{◌≡◌, ℕ, ◌+◌, List, [], ◌∷◌, ◌+
 use Rattle.r2_base.specs.declared.datagram.Datagram.{Datagram}
 use Rattle.r2_base.specs.declared.event.Event.{Event}
 use Rattle.r2_jbsq.specs.declared.router_setup.RouterSetup.{RouterSetup}
-use Rattle.r2_jbsq.specs.Answer.{answer, history_behind, marks}
+use Rattle.r2_jbsq.specs.Answer.{answer, history_after, marks}
 use Rattle.r2_jbsq.specs.History.{Mark}
 use Rattle.r2_jbsq.specs.State.{RouterState, StandsFor}
-use Rattle.cmd_router.specs.Routed.{Becomes, counted, sent_behind}
+use Rattle.cmd_router.specs.Routed.{Becomes, counted, sent_after}
 
--- the history behind one event more
+-- the history after one event more
 history-more : (setup : RouterSetup) (history : List Mark) (events : List Event) (event : Event)
-    → history_behind setup history (events ++ event ∷ []) ≡ history_behind setup history events ++ marks setup (history_behind setup history events) event
-unfolding history_behind
+    → history_after setup history (events ++ event ∷ []) ≡ history_after setup history events ++ marks setup (history_after setup history events) event
+unfolding history_after
 history-more setup history [] event = refl
 history-more setup history (first ∷ events) event = history-more setup (history ++ marks setup history first) events event
 
 -- what is sent for one event more
 sent-more : (setup : RouterSetup) (history : List Mark) (events : List Event) (event : Event)
-    → sent_behind setup history (events ++ event ∷ []) ≡ sent_behind setup history events ++ answer setup (history_behind setup history events) event
-unfolding history_behind sent_behind
+    → sent_after setup history (events ++ event ∷ []) ≡ sent_after setup history events ++ answer setup (history_after setup history events) event
+unfolding history_after sent_after
 sent-more setup history [] event = append-nil (answer setup history event)
 sent-more setup history (first ∷ events) event =
     ap (λ (l : List Datagram). answer setup history first ++ l) (sent-more setup (history ++ marks setup history first) events event)
-    ∙ sym (append_assoc (answer setup history first) (sent_behind setup (history ++ marks setup history first) events)
-    (answer setup (history_behind setup (history ++ marks setup history first) events) event))
+    ∙ sym (append_assoc (answer setup history first) (sent_after setup (history ++ marks setup history first) events)
+    (answer setup (history_after setup (history ++ marks setup history first) events) event))
 
--- the count behind one event more, and behind all of them
+-- the count after one event more, and after all of them
 counted-more : (n : ℕ) (events : List Event) (event : Event) → counted n (events ++ event ∷ []) ≡ counted n events + 1
 unfolding counted
 counted-more n [] event = refl
@@ -45,14 +45,14 @@ pub becomes-more : (first old new : RouterState) (n m k : ℕ) (events : List Ev
     → Becomes first n (events ++ event ∷ []) (sent ++ sends) new k
 becomes-more first old new n m k events event sent sends before gives stands same one = record {
   stands = λ history stood.
-      let behind = history_behind first.setup history events in
+      let after = history_after first.setup history events in
       subst (λ (h : List Mark). StandsFor new h) (sym (history-more first.setup history events event))
-      (subst (λ (s : RouterSetup). StandsFor new (behind ++ marks s behind event)) before.setup (stands behind (before.stands history stood)));
+      (subst (λ (s : RouterSetup). StandsFor new (after ++ marks s after event)) before.setup (stands after (before.stands history stood)));
   sends = λ history stood.
-      let behind = history_behind first.setup history events in
+      let after = history_after first.setup history events in
       ap (λ (l : List Datagram). l ++ sends) (before.sends history stood)
-      ∙ ap (λ (l : List Datagram). sent_behind first.setup history events ++ l)
-      (gives behind (before.stands history stood) ∙ ap (λ (s : RouterSetup). answer s behind event) before.setup)
+      ∙ ap (λ (l : List Datagram). sent_after first.setup history events ++ l)
+      (gives after (before.stands history stood) ∙ ap (λ (s : RouterSetup). answer s after event) before.setup)
       ∙ sym (sent-more first.setup history events event);
   setup = same ∙ before.setup;
   turns = one ∙ ap (λ (c : ℕ). c + 1) before.turns ∙ sym (counted-more n events event);

@@ -5,9 +5,9 @@ use Rattle.std.specs.Io.KnownBytes.{Appends, Keeps}
 use Rattle.r2_base.specs.declared.datagram.Datagram.{Datagram}
 use Rattle.r2_base.specs.declared.event.Event.{Event}
 use Rattle.r2_link.specs.Faults.{Rose, calm}
-use Rattle.r2_link.specs.Streams.{AppendsFront}
+use Rattle.r2_link.specs.Streams.{AppendsPrefix}
 use Rattle.r2_jbsq.specs.declared.router_setup.RouterSetup.{RouterSetup}
-use Rattle.r2_jbsq.specs.Answer.{history_behind}
+use Rattle.r2_jbsq.specs.Answer.{history_after}
 use Rattle.r2_jbsq.specs.History.{is_accept, is_answer, is_forward}
 use Rattle.r2_jbsq.specs.State.{RouterState, StandsFor, begin}
 use Rattle.r2_jbsq.proofs.Runs.{begin-stands}
@@ -20,10 +20,10 @@ use Rattle.cmd_loop.specs.Happenings.{events_of}
 use Rattle.cmd_loop.specs.Loop.{IsServed, Rule}
 use Rattle.cmd_loop.specs.Plain.{Unstored}
 use Rattle.cmd_loop.proofs.Weaker.{Gives, serves-calm}
-use Rattle.cmd_router.specs.Routed.{Becomes, RouterSends, sent_behind}
+use Rattle.cmd_router.specs.Routed.{Becomes, RouterSends, sent_after}
 use Rattle.cmd_router.specs.Totals.{totals_line, totals_text}
 use Rattle.cmd_router.specs.Twins.{RunsOnTwin}
-use Rattle.cmd_router.specs.Routes.{IsWholeRun, Routes, RoutesAndTells, RoutesOnTwin, TellsFront, TellsTotals}
+use Rattle.cmd_router.specs.Routes.{IsWholeRun, Routes, RoutesAndTells, RoutesOnTwin, TellsPrefix, TellsTotals}
 use Rattle.cmd_router.proofs.Routed.{counted-all}
 use Rattle.cmd_router.proofs.Twins.{on-twin-kept, on-twin-weaker}
 
@@ -38,22 +38,22 @@ new-stands setup r begun = subst (λ (x : RouterState). StandsFor x []) (sym beg
 pub new-sends : (setup : RouterSetup) (old new : RouterState) (n m : ℕ) (events : List Event) (sends : List Datagram)
     → old ≡ begin setup → Becomes old n events sends new m → RouterSends setup events sends
 new-sends setup old new n m events sends begun becomes =
-    becomes.sends [] (new-stands setup old begun) ∙ ap (λ (r : RouterState). sent_behind r.setup [] events) begun
+    becomes.sends [] (new-stands setup old begun) ∙ ap (λ (r : RouterState). sent_after r.setup [] events) begun
 
 pub new-counted : (setup : RouterSetup) (old new : RouterState) (n m : ℕ) (events : List Event) (sends : List Datagram)
     → old ≡ begin setup → n ≡ 0 → Becomes old n events sends new m
     → Counted setup (totals_line m new.accepted new.forwarded new.answered) events sends
 new-counted setup old new n m events sends begun zero becomes =
     let stands = new-stands setup old begun in
-    let behind = becomes.stands [] stands in
+    let after = becomes.stands [] stands in
     let same : old.setup ≡ setup = ap (λ (r : RouterState). r.setup) begun in
     let turns : m ≡ length events = omega (arith, becomes.turns, zero, counted-all n events) in (
-      becomes.sends [] stands ∙ ap (λ (s : RouterSetup). sent_behind s [] events) same,
+      becomes.sends [] stands ∙ ap (λ (s : RouterSetup). sent_after s [] events) same,
       ap (λ (k : ℕ). totals_line k new.accepted new.forwarded new.answered) turns
-          ∙ ap (λ (k : ℕ). totals_line (length events) k new.forwarded new.answered) (behind.accepted ∙ ap (λ (s : RouterSetup). count_by is_accept (history_behind s [] events)) same)
-          ∙ ap (λ (k : ℕ). totals_line (length events) (count_by is_accept (history_behind setup [] events)) k new.answered) (behind.forwarded ∙ ap (λ (s : RouterSetup). count_by is_forward (history_behind s [] events)) same)
-          ∙ ap (λ (k : ℕ). totals_line (length events) (count_by is_accept (history_behind setup [] events)) (count_by is_forward (history_behind setup [] events)) k)
-          (behind.answered ∙ ap (λ (s : RouterSetup). count_by is_answer (history_behind s [] events)) same),
+          ∙ ap (λ (k : ℕ). totals_line (length events) k new.forwarded new.answered) (after.accepted ∙ ap (λ (s : RouterSetup). count_by is_accept (history_after s [] events)) same)
+          ∙ ap (λ (k : ℕ). totals_line (length events) (count_by is_accept (history_after setup [] events)) k new.answered) (after.forwarded ∙ ap (λ (s : RouterSetup). count_by is_forward (history_after s [] events)) same)
+          ∙ ap (λ (k : ℕ). totals_line (length events) (count_by is_accept (history_after setup [] events)) (count_by is_forward (history_after setup [] events)) k)
+          (after.answered ∙ ap (λ (s : RouterSetup). count_by is_answer (history_after s [] events)) same),
     )
 
 -- the totals were told, or a prefix of them
@@ -61,9 +61,9 @@ whole-told : (setup : RouterSetup) (line : List ℕ) (w w' : Option (List ℕ)) 
     → Counted setup line events sends → TellsTotals setup w w' events sends
 whole-told setup line w w' gave events sends counted = (counted.0, subst (λ (l : List ℕ). Appends w w' l) counted.1 gave)
 
-front-told : (setup : RouterSetup) (line : List ℕ) (w w' : Option (List ℕ)) → AppendsFront w w' line → (events : List Event) (sends : List Datagram)
-    → Counted setup line events sends → TellsFront setup w w' events sends
-front-told setup line w w' gave events sends counted = (counted.0, subst (λ (l : List ℕ). AppendsFront w w' l) counted.1 gave)
+prefix-told : (setup : RouterSetup) (line : List ℕ) (w w' : Option (List ℕ)) → AppendsPrefix w w' line → (events : List Event) (sends : List Datagram)
+    → Counted setup line events sends → TellsPrefix setup w w' events sends
+prefix-told setup line w w' gave events sends counted = (counted.0, subst (λ (l : List ℕ). AppendsPrefix w w' l) counted.1 gave)
 
 -- a rule on the events that follows from another, where nothing is stored
 pub unstored-gives : (S S' : List Event → List Datagram → Type 0) → ((events : List Event) (sends : List Datagram) → S events sends → S' events sends)
@@ -80,7 +80,7 @@ routes-weaker W W' whole setup pace a b status runs =
 -- what was told of a loop that ended so
 abbrev pub Told : List ℕ → Option (List ℕ) → Option (List ℕ) → Status → Status → Type 0
 Told line w w' ended result =
-    ((result ≡ ended) × Appends w w' line) ⊎ ((result ≡ SinkFault) × AppendsFront w w' line)
+    ((result ≡ ended) × Appends w w' line) ⊎ ((result ≡ SinkFault) × AppendsPrefix w w' line)
 
 module _ (setup : RouterSetup) (pace : Pace) (line : List ℕ) (a b : Ends) where
   -- the totals, or a prefix of them, after either end
@@ -89,7 +89,7 @@ module _ (setup : RouterSetup) (pace : Pace) (line : List ℕ) (a b : Ends) wher
   told-routes ended result whole runs (inl told) =
       inl (told.0, routes-weaker (Counted setup line) (TellsTotals setup a.written b.written) (whole-told setup line a.written b.written told.1) setup pace a (record b { written = a.written }) ended runs)
   told-routes ended result whole runs (inr cut) =
-      inr (cut.0, (ended, whole, routes-weaker (Counted setup line) (TellsFront setup a.written b.written) (front-told setup line a.written b.written cut.1) setup pace a (record b { written = a.written }) ended runs))
+      inr (cut.0, (ended, whole, routes-weaker (Counted setup line) (TellsPrefix setup a.written b.written) (prefix-told setup line a.written b.written cut.1) setup pace a (record b { written = a.written }) ended runs))
 
   told-done : (result : Status) → ((result ≡ Done) × Routes setup pace a b Done) ⊎ ((result ≡ SinkFault) × Routes setup pace a b SinkFault) → Routes setup pace a b result
   told-done result (inl told) = subst (Routes setup pace a b) (sym told.0) told.1

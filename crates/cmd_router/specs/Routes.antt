@@ -3,7 +3,7 @@ use Rattle.std.specs.Prelude.{◌⊎◌, ℕ, List, Option}
 use Rattle.std.specs.Io.KnownBytes.{Appends}
 use Rattle.r2_base.specs.declared.datagram.Datagram.{Datagram}
 use Rattle.r2_base.specs.declared.event.Event.{Event}
-use Rattle.r2_link.specs.Streams.{AppendsFront}
+use Rattle.r2_link.specs.Streams.{AppendsPrefix}
 use Rattle.r2_jbsq.specs.declared.router_setup.RouterSetup.{RouterSetup}
 use Rattle.cmd_status.specs.declared.status.Status.{Status}
 use Rattle.cmd_status.specs.declared.status.Status.TheVariants.{Done, Memory, SinkFault, LinkFault, ClockFault, TurnsSpent}
@@ -19,8 +19,8 @@ abbrev pub TellsTotals : RouterSetup → Option (List ℕ) → Option (List ℕ)
 TellsTotals setup written written' events sends = RouterSends setup events sends × Appends written written' (totals_text setup events)
 
 -- and a prefix of their totals was written
-abbrev pub TellsFront : RouterSetup → Option (List ℕ) → Option (List ℕ) → List Event → List Datagram → Type 0
-TellsFront setup written written' events sends = RouterSends setup events sends × AppendsFront written written' (totals_text setup events)
+abbrev pub TellsPrefix : RouterSetup → Option (List ℕ) → Option (List ℕ) → List Event → List Datagram → Type 0
+TellsPrefix setup written written' events sends = RouterSends setup events sends × AppendsPrefix written written' (totals_text setup events)
 
 -- a loop that its link ended, or its last turn
 abbrev pub IsWholeRun : Status → Type 0
@@ -42,7 +42,7 @@ abbrev pub Routes : RouterSetup → Pace → Ends → Ends → Status → Type 0
 Routes setup pace old new Done = RoutesAndTells (TellsTotals setup old.written new.written) setup pace old new Done
 Routes setup pace old new TurnsSpent = RoutesAndTells (TellsTotals setup old.written new.written) setup pace old new TurnsSpent
 Routes setup pace old new SinkFault =
-    (ended : Status) × IsWholeRun ended × RoutesAndTells (TellsFront setup old.written new.written) setup pace old new ended
+    (ended : Status) × IsWholeRun ended × RoutesAndTells (TellsPrefix setup old.written new.written) setup pace old new ended
 Routes setup pace old new LinkFault = Passes old new nothing ⊎ RoutesOnTwin (RouterSends setup) setup pace old new LinkFault
 Routes setup pace old new Memory = Passes old new nothing ⊎ RoutesOnTwin (RouterSends setup) setup pace old new Memory
 Routes setup pace old new ClockFault = RoutesOnTwin (RouterSends setup) setup pace old new ClockFault

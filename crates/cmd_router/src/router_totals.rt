@@ -1,7 +1,7 @@
 ghost use Rattle.std.specs.Prelude.{◌≤◌, ◌++◌, OnErr, OnOk};
 ghost use Rattle.std.specs.Io.KnownBytes.{Appends};
 ghost use Rattle.r2_link.specs.Faults.{Rose};
-ghost use Rattle.r2_link.specs.Streams.{AppendsFront};
+ghost use Rattle.r2_link.specs.Streams.{AppendsPrefix};
 ghost use Rattle.cmd_router.specs.Totals.{count_text, totals_line};
 
 use cmd_status::write_decimal;
@@ -22,7 +22,7 @@ pub(crate) struct RouterTotals {
 #[tactic(auto, unfolding(crate::specs::Totals::totals_line))]
 pub(crate) fn write_totals<K: Sink>(sink: &mut K, totals: RouterTotals) -> Result<(), Failed>
     ensures whole { OnOk result (Appends (K.written sink.old) (K.written sink.new) (totals_line totals.turns totals.accepted totals.forwarded totals.answered)) }
-    ensures front { AppendsFront (K.written sink.old) (K.written sink.new) (totals_line totals.turns totals.accepted totals.forwarded totals.answered) }
+    ensures prefix { AppendsPrefix (K.written sink.old) (K.written sink.new) (totals_line totals.turns totals.accepted totals.forwarded totals.answered) }
     ensures steady { K.faults sink.old ≤ K.faults sink.new }
     ensures cause { OnErr result (Rose (K.faults sink.old) (K.faults sink.new)) }
 {
@@ -37,7 +37,7 @@ pub(crate) fn write_totals<K: Sink>(sink: &mut K, totals: RouterTotals) -> Resul
 #[tactic(auto, unfolding(crate::specs::Totals::count_text))]
 fn write_count<K: Sink>(sink: &mut K, name: &[u8], n: u64) -> Result<(), Failed>
     ensures whole { OnOk result (Appends (K.written sink.old) (K.written sink.new) (count_text name.now n)) }
-    ensures front { AppendsFront (K.written sink.old) (K.written sink.new) (count_text name.now n) }
+    ensures prefix { AppendsPrefix (K.written sink.old) (K.written sink.new) (count_text name.now n) }
     ensures steady { K.faults sink.old ≤ K.faults sink.new }
     ensures cause { OnErr result (Rose (K.faults sink.old) (K.faults sink.new)) }
 {

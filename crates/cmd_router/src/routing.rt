@@ -3,7 +3,7 @@ ghost use Rattle.std.specs.Io.KnownBytes.{Appends, Keeps};
 ghost use Rattle.r2_base.specs.Limits.{most_turns};
 ghost use Rattle.r2_jbsq.specs.Limits.{greatest_n, most_servers};
 ghost use Rattle.r2_link.specs.Faults.{NoneFalls, Rose, calm};
-ghost use Rattle.r2_link.specs.Streams.{AppendsFront};
+ghost use Rattle.r2_link.specs.Streams.{AppendsPrefix};
 ghost use Rattle.cmd_status.specs.Causes.{IsCaused};
 ghost use Rattle.cmd_status.specs.declared.status.Status.TheVariants.{SinkFault};
 ghost use Rattle.cmd_loop.specs.Ends.{Ends};
@@ -74,7 +74,7 @@ fn tell_end<K: Sink>(sink: &mut K, totals: RouterTotals, ended: Status) -> Statu
     ensures untold { (IsWholeRun ended → ⊥) → (result ≡ ended) × Keeps (K.written sink.old) (K.written sink.new) }
     ensures told { IsWholeRun ended
         → ((result ≡ ended) × Appends (K.written sink.old) (K.written sink.new) (totals_line totals.turns totals.accepted totals.forwarded totals.answered))
-        ⊎ ((result ≡ SinkFault) × AppendsFront (K.written sink.old) (K.written sink.new) (totals_line totals.turns totals.accepted totals.forwarded totals.answered)) }
+        ⊎ ((result ≡ SinkFault) × AppendsPrefix (K.written sink.old) (K.written sink.new) (totals_line totals.turns totals.accepted totals.forwarded totals.answered)) }
     ensures cause { (result ≡ ended) ⊎ ((result ≡ SinkFault) × Rose (K.faults sink.old) (K.faults sink.new)) }
     ensures steady { K.faults sink.old ≤ K.faults sink.new }
 {

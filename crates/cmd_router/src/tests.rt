@@ -34,7 +34,7 @@ const SERVERS: [Addr; 2] = [
 struct Run {
     /// The receives that are made at most.
     turns: u8,
-    /// What the clock tells behind the fifth request; until then it stands still.
+    /// What the clock tells after the fifth request; until then it stands still.
     moment: u64,
     /// The calls of the link, of its twin and of the clock that fail, where 0 is none.
     link_fails: u64,

@@ -37,7 +37,7 @@ impl<V: Service> PlainParty for ServingParty<V> {
     ghost begins = { λ a. becomes_none a.server };
 }
 
-/// Runs a plain server at `me`, behind the router where one is given, over a service that has executed nothing, between a link
+/// Runs a plain server at `me`, for the router where one is given, over a service that has executed nothing, between a link
 /// and a clock, until the link ends, something fails, or so many receives were made.
 pub fn serve_plain<V: Service, L: Link, C: Clock>(
     alloc: Global,

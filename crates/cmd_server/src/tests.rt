@@ -51,7 +51,7 @@ fn numbers(alloc: Global, items: &[u64]) -> Result<Numbers, NoMemory> {
     Ok(Numbers::from_vec(Vec::from_slice(alloc, items)?))
 }
 
-/// A get, with quiet before and behind it.
+/// A get, with quiet before and after it.
 fn get(alloc: Global) -> Result<Items, NoMemory> {
     let mut items = Vec::new(alloc);
     items.push(Item::Quiet)?;

@@ -2,26 +2,26 @@
 use Rattle.std.proofs.Common.{◌≡◌, ℕ, ◌≤◌, List, [], ◌∷◌, ◌++◌, Option, Result, Ok, Err, refl, sym, subst, codes}
 use Rattle.std.specs.Io.KnownBytes.{Appends}
 use Rattle.std.specs.Result.{OnOk}
-use Rattle.r2_link.specs.Streams.{AppendsFront}
+use Rattle.r2_link.specs.Streams.{AppendsPrefix}
 use Rattle.r2_link.proofs.Faults.{then-Rose}
-use Rattle.r2_link.proofs.Streams.{Appends-nil, Appends-trans, AppendsFront-longer, AppendsFront-then}
+use Rattle.r2_link.proofs.Streams.{Appends-nil, Appends-trans, AppendsPrefix-longer, AppendsPrefix-then}
 use Rattle.cmd_status.specs.declared.status.Status.{Status}
 use Rattle.cmd_status.specs.declared.status.Status.TheVariants.{Done, BadWords, BadScript, Memory, SourceFault, SinkFault, LinkFault, DiskFault, ClockFault, TimedOut, IdsUsed, TurnsSpent}
 use Rattle.cmd_status.specs.Texts.{cause_text, error_text}
 use Rattle.cmd_status.specs.Stops.{StopsBySink, HasSinkCause}
 
 -- of three pieces, a prefix of the first
-pub front_of_first : (a b : Option (List ℕ)) (x y z : List ℕ) → AppendsFront a b x → AppendsFront a b (x ++ y ++ z)
-front_of_first a b x y z cut = AppendsFront-longer a b (x ++ y) z (AppendsFront-longer a b x y cut)
+pub prefix_of_first : (a b : Option (List ℕ)) (x y z : List ℕ) → AppendsPrefix a b x → AppendsPrefix a b (x ++ y ++ z)
+prefix_of_first a b x y z cut = AppendsPrefix-longer a b (x ++ y) z (AppendsPrefix-longer a b x y cut)
 
 -- the first, and a prefix of the second
-pub front_of_second : (a b c : Option (List ℕ)) (x y z : List ℕ) → Appends a b x → AppendsFront b c y → AppendsFront a c (x ++ y ++ z)
-front_of_second a b c x y z first cut = AppendsFront-longer a c (x ++ y) z (AppendsFront-then a b c x y cut first)
+pub prefix_of_second : (a b c : Option (List ℕ)) (x y z : List ℕ) → Appends a b x → AppendsPrefix b c y → AppendsPrefix a c (x ++ y ++ z)
+prefix_of_second a b c x y z first cut = AppendsPrefix-longer a c (x ++ y) z (AppendsPrefix-then a b c x y cut first)
 
 -- the first two, and a prefix of the third
-pub front_of_third : (a b c d : Option (List ℕ)) (x y z : List ℕ) → Appends a b x → Appends b c y → AppendsFront c d z → AppendsFront a d (x ++ y ++ z)
-front_of_third a b c d x y z first second cut =
-    AppendsFront-then a c d (x ++ y) z cut (Appends-trans a b c x y first second)
+pub prefix_of_third : (a b c d : Option (List ℕ)) (x y z : List ℕ) → Appends a b x → Appends b c y → AppendsPrefix c d z → AppendsPrefix a d (x ++ y ++ z)
+prefix_of_third a b c d x y z first second cut =
+    AppendsPrefix-then a c d (x ++ y) z cut (Appends-trans a b c x y first second)
 
 pub all_three : (a b c d : Option (List ℕ)) (x y z : List ℕ) → Appends a b x → Appends b c y → Appends c d z → Appends a d (x ++ y ++ z)
 all_three a b c d x y z first second third =

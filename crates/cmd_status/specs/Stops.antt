@@ -2,7 +2,7 @@
 use Rattle.std.specs.Prelude.{ℕ, List, Option, ◌⊎◌}
 use Rattle.std.specs.Io.KnownBytes.{Appends}
 use Rattle.r2_link.specs.Faults.{Rose}
-use Rattle.r2_link.specs.Streams.{AppendsFront}
+use Rattle.r2_link.specs.Streams.{AppendsPrefix}
 use Rattle.cmd_status.specs.declared.status.Status.{Status}
 use Rattle.cmd_status.specs.declared.status.Status.TheVariants.{Done, BadWords, BadScript, Memory, SourceFault, SinkFault, LinkFault, DiskFault, ClockFault, TimedOut, IdsUsed, TurnsSpent}
 
@@ -28,4 +28,4 @@ HasSinkCause old new _ = Unit {0}
 
 -- all of the text was written, or a prefix of it where the count of the sink's faults rose
 abbrev pub Reports : Option (List ℕ) → Option (List ℕ) → ℕ → ℕ → List ℕ → Type 0
-Reports old new faults_old faults_new text = Appends old new text ⊎ (AppendsFront old new text × Rose faults_old faults_new)
+Reports old new faults_old faults_new text = Appends old new text ⊎ (AppendsPrefix old new text × Rose faults_old faults_new)

@@ -1,7 +1,7 @@
 ghost use Rattle.std.specs.Prelude.{◌≡◌, ◌++◌, ◌∷◌, ◌≤◌, ◌⊎◌, [], codes, Some, OnOk, OnErr};
 ghost use Rattle.std.specs.Io.KnownBytes.{Appends};
 ghost use Rattle.r2_link.specs.Faults.{Rose};
-ghost use Rattle.r2_link.specs.Streams.{AppendsFront};
+ghost use Rattle.r2_link.specs.Streams.{AppendsPrefix};
 ghost use Rattle.std.specs.Fmt.{decimal};
 ghost use Rattle.cmd_status.specs.Texts.{code_of, cause_text, error_text};
 ghost use Rattle.cmd_status.specs.Stops.{Reports};
@@ -96,7 +96,7 @@ pub fn report<E: Sink>(errors: &mut E, status: Status)
 
 fn write_error<E: Sink>(errors: &mut E, status: Status) -> Result<(), Failed>
     ensures whole { OnOk result (Appends (E.written errors.old) (E.written errors.new) (error_text status)) }
-    ensures front { AppendsFront (E.written errors.old) (E.written errors.new) (error_text status) }
+    ensures prefix { AppendsPrefix (E.written errors.old) (E.written errors.new) (error_text status) }
     ensures steady { E.faults errors.old ≤ E.faults errors.new }
     ensures cause { OnErr result (Rose (E.faults errors.old) (E.faults errors.new)) }
 {
@@ -108,7 +108,7 @@ fn write_error<E: Sink>(errors: &mut E, status: Status) -> Result<(), Failed>
 
 fn write_error_line<E: Sink>(errors: &mut E, status: Status) -> Result<(), Failed>
     ensures whole { OnOk result (Appends (E.written errors.old) (E.written errors.new) (codes "r2p2_suite: " ++ cause_text status ++ 10 ∷ [])) }
-    ensures front { AppendsFront (E.written errors.old) (E.written errors.new) (codes "r2p2_suite: " ++ cause_text status ++ 10 ∷ []) }
+    ensures prefix { AppendsPrefix (E.written errors.old) (E.written errors.new) (codes "r2p2_suite: " ++ cause_text status ++ 10 ∷ []) }
     ensures steady { E.faults errors.old ≤ E.faults errors.new }
     ensures cause { OnErr result (Rose (E.faults errors.old) (E.faults errors.new)) }
 {
@@ -119,7 +119,7 @@ fn write_error_line<E: Sink>(errors: &mut E, status: Status) -> Result<(), Faile
 
 fn write_cause<E: Sink>(errors: &mut E, status: Status) -> Result<(), Failed>
     ensures whole { OnOk result (Appends (E.written errors.old) (E.written errors.new) (cause_text status)) }
-    ensures front { AppendsFront (E.written errors.old) (E.written errors.new) (cause_text status) }
+    ensures prefix { AppendsPrefix (E.written errors.old) (E.written errors.new) (cause_text status) }
     ensures steady { E.faults errors.old ≤ E.faults errors.new }
     ensures cause { OnErr result (Rose (E.faults errors.old) (E.faults errors.new)) }
 {
@@ -142,7 +142,7 @@ fn write_cause<E: Sink>(errors: &mut E, status: Status) -> Result<(), Failed>
 /// Writes a line's number, and what is said of it.
 fn write_at_line<E: Sink>(errors: &mut E, line: u64, said: &[u8]) -> Result<(), Failed>
     ensures whole { OnOk result (Appends (E.written errors.old) (E.written errors.new) (codes "line " ++ decimal line ++ said.now)) }
-    ensures front { AppendsFront (E.written errors.old) (E.written errors.new) (codes "line " ++ decimal line ++ said.now) }
+    ensures prefix { AppendsPrefix (E.written errors.old) (E.written errors.new) (codes "line " ++ decimal line ++ said.now) }
     ensures steady { E.faults errors.old ≤ E.faults errors.new }
     ensures cause { OnErr result (Rose (E.faults errors.old) (E.faults errors.new)) }
 {
@@ -154,7 +154,7 @@ fn write_at_line<E: Sink>(errors: &mut E, line: u64, said: &[u8]) -> Result<(), 
 /// Writes a number in decimal, which takes no memory.
 pub fn write_decimal<K: Sink>(sink: &mut K, n: u64) -> Result<(), Failed>
     ensures whole { OnOk result (Appends (K.written sink.old) (K.written sink.new) (decimal n)) }
-    ensures front { AppendsFront (K.written sink.old) (K.written sink.new) (decimal n) }
+    ensures prefix { AppendsPrefix (K.written sink.old) (K.written sink.new) (decimal n) }
     ensures steady { K.faults sink.old ≤ K.faults sink.new }
     ensures cause { OnErr result (Rose (K.faults sink.old) (K.faults sink.new)) }
 {

@@ -86,7 +86,7 @@ find-passes p (y ∷ ys) x e =
     ]
 
 -- the newest reply to a request is one to that request
-newest-rid : (rid : Rid) (kept : List KeptReply) (reply : KeptReply) → newest rid kept ≡ Some reply → reply.rid ≡ rid
+pub newest-rid : (rid : Rid) (kept : List KeptReply) (reply : KeptReply) → newest rid kept ≡ Some reply → reply.rid ≡ rid
 unfolding newest
 newest-rid rid kept reply e = same_rid-true reply.rid rid (find-passes (λ r. same_rid r.rid rid) (reverse kept) reply e)
 

@@ -40,21 +40,21 @@ joins-parts log prev_index prev_term e =
 
 module _ (s : Setup) (is : IsSetup s) where
   -- a member that follows a leader of its term
-  record Follows (term : ℕ) (m n : Member) : Type 0 where
-    sound : IsSound s n
-    log : n.log ≡ m.log
-    role : n.role ≡ Follower
-    low : m.term ≤ n.term
-    high : term ≤ n.term
-    vote : m.term ≡ n.term → n.vote ≡ m.vote
-    commit : n.commit ≡ m.commit
-    applied : n.applied ≡ m.applied
+  pub record Follows (term : ℕ) (m n : Member) : Type 0 where
+    pub sound : IsSound s n
+    pub log : n.log ≡ m.log
+    pub role : n.role ≡ Follower
+    pub low : m.term ≤ n.term
+    pub high : term ≤ n.term
+    pub vote : m.term ≡ n.term → n.vote ≡ m.vote
+    pub commit : n.commit ≡ m.commit
+    pub applied : n.applied ≡ m.applied
 
   sound-follows : (n : Member) → IsSound s n → IsSound s (record n { role = Follower; silent = 0 })
   sound-follows n sound =
       sound-part s n n.term n.vote Follower n.votes n.matched 0 n.commit n.lead sound sound.durable (omega arith) sound.committed sound.matched tt
 
-  follows-parts : (m : Member) (term : ℕ) → IsTerm term → IsSound s m → Follows term m (follows term m)
+  pub follows-parts : (m : Member) (term : ℕ) → IsTerm term → IsSound s m → Follows term m (follows term m)
   unfolding follows
   follows-parts m term t sound =
       let r = rises s term m t sound in

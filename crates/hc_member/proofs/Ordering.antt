@@ -53,7 +53,7 @@ given-bounds queues last (replier ∷ later) =
     ∙ map-set_same (λ (row : Row). row.bound) queues replier (with_given (row_at queues replier) (last + 1)) (empty_row 0) refl
 
 module _ (s : Setup) (is : IsSetup s) (term : ℕ) (vote : Option ℕ) where
-  may-order : (w : Waiting) → CanOrder s term vote w → MayOrder term w
+  pub may-order : (w : Waiting) → CanOrder s term vote w → MayOrder term w
   may-order w can =
       let valid = can.valid in
       let few = is.few in

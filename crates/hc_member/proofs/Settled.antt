@@ -44,7 +44,7 @@ counted-most reached need most all =
 
 module _ (s : Setup) (is : IsSetup s) where
   -- a leader may order
-  can-order : (m : Member) → IsSound s m → m.role ≡ Leader → CanOrder s m.term m.vote (waiting_of m)
+  pub can-order : (m : Member) → IsSound s m → m.role ≡ Leader → CanOrder s m.term m.vote (waiting_of m)
   can-order m sound role =
       let lead = leading s is m sound role in
       record { valid = sound.durable; is_set = lead.term_is_set; pool = sound.pool; apart = sound.apart; bounds = lead.bounds; queues = lead.queues }
@@ -80,16 +80,16 @@ module _ (s : Setup) (is : IsSetup s) where
       (subst (IsInRole s m.term (length w.log) m.votes lead) (sym role) (leads-longer m w room (leading s is m sound role) can extends))
 
   -- what ordering leads to
-  record Ordered (m n : Member) (room : ℕ) : Type 0 where
-    sound : IsSound s n
-    term : n.term ≡ m.term
-    vote : n.vote ≡ m.vote
-    role : n.role ≡ m.role
-    commit : n.commit ≡ m.commit
-    applied : n.applied ≡ m.applied
-    extends : Extends m.log n.log room
+  pub record Ordered (m n : Member) (room : ℕ) : Type 0 where
+    pub sound : IsSound s n
+    pub term : n.term ≡ m.term
+    pub vote : n.vote ≡ m.vote
+    pub role : n.role ≡ m.role
+    pub commit : n.commit ≡ m.commit
+    pub applied : n.applied ≡ m.applied
+    pub extends : Extends m.log n.log room
 
-  ordered-leader : (m : Member) (keep : ℕ) → IsSound s m → m.role ≡ Leader → Ordered m (ordering m keep) (most_entries - (length m.log - keep))
+  pub ordered-leader : (m : Member) (keep : ℕ) → IsSound s m → m.role ≡ Leader → Ordered m (ordering m keep) (most_entries - (length m.log - keep))
   unfolding ordering
   ordered-leader m keep sound role =
       let room = most_entries - (length m.log - keep) in
@@ -98,7 +98,7 @@ module _ (s : Setup) (is : IsSetup s) where
       record { sound = sound-with_ordered m w room sound role did.can did.extends; term = refl; vote = refl; role = refl; commit = refl; applied = refl; extends = did.extends }
 
   -- the Order of what a turn appended is valid
-  fresh-order : (m : Member) (to : Addr) (keep : ℕ) (via : Bool) → IsSound s m → m.role ≡ Leader → keep ≤ length m.log → length m.log ≤ keep + most_entries
+  pub fresh-order : (m : Member) (to : Addr) (keep : ℕ) (via : Bool) → IsSound s m → m.role ≡ Leader → keep ≤ length m.log → length m.log ≤ keep + most_entries
       → IsSent (Tell to (order_after s m keep via (metas_of (drop keep m.log))))
   fresh-order m to keep via sound role within few =
       let lead = leading s is m sound role in
@@ -127,12 +127,12 @@ module _ (s : Setup) (is : IsSetup s) where
   sent-fresh m keep sound role within few = sent-fresh_by (nat_lt keep (length m.log)) m keep sound role within few
 
   -- a leader counts
-  record Counted (m n : Member) : Type 0 where
-    sound : IsSound s n
-    durable : durable_of n ≡ durable_of m
-    role : n.role ≡ m.role
-    commit : m.commit ≤ n.commit
-    applied : n.applied ≡ m.applied
+  pub record Counted (m n : Member) : Type 0 where
+    pub sound : IsSound s n
+    pub durable : durable_of n ≡ durable_of m
+    pub role : n.role ≡ m.role
+    pub commit : m.commit ≤ n.commit
+    pub applied : n.applied ≡ m.applied
 
   counted-by : (b : Bool) (m : Member) → (nat_le m.lead.term_start (agreed_index s m) && nat_lt m.commit (agreed_index s m)) ≡ b → IsSound s m → m.role ≡ Leader
       → Counted m (if b then record m { commit = agreed_index s m } else m)
@@ -145,7 +145,7 @@ module _ (s : Setup) (is : IsSetup s) where
       record { sound = sound-commit s is m (agreed_index s m) (omega (arith, more)) most sound; durable = refl; role = refl; commit = omega (arith, more); applied = refl }
   counted-by false m e sound role = record { sound = sound; durable = refl; role = refl; commit = omega arith; applied = refl }
 
-  counted-leader : (m : Member) → IsSound s m → m.role ≡ Leader → Counted m (counting s m)
+  pub counted-leader : (m : Member) → IsSound s m → m.role ≡ Leader → Counted m (counting s m)
   unfolding counting
   counted-leader m sound role = counted-by (nat_le m.lead.term_start (agreed_index s m) && nat_lt m.commit (agreed_index s m)) m refl sound role
 

@@ -44,13 +44,13 @@ relieved-apart true log pool apart = All-drop (λ (r : Request). stands_in r.rid
 relieved-apart false log pool apart = apart
 
 module _ (s : Setup) (is : IsSetup s) where
-  sound-waited : (m : Member) → IsSound s m → IsSound s (waited m)
+  pub sound-waited : (m : Member) → IsSound s m → IsSound s (waited m)
   unfolding waited
   sound-waited m sound =
       sound-waits s m (relieved m.pool) m.unfinished m.pending (min (m.silent + 1) (2 ^ 31)) sound (relieved-pool (nat_le most_pooled (length m.pool)) m.pool sound.pool)
       (relieved-apart (nat_le most_pooled (length m.pool)) m.log m.pool sound.apart) sound.unfinished sound.batch
 
-  waited-durable : (m : Member) → durable_of (waited m) ≡ durable_of m
+  pub waited-durable : (m : Member) → durable_of (waited m) ≡ durable_of m
   unfolding waited
   waited-durable m = refl
 
@@ -58,7 +58,7 @@ module _ (s : Setup) (is : IsSetup s) where
   unfolding waited
   waited-progress m = (refl, refl)
 
-  impatient-low : (m : Member) → is_impatient s m ≡ true → (m.term < greatest_number) × (length m.log < greatest_number)
+  pub impatient-low : (m : Member) → is_impatient s m ≡ true → (m.term < greatest_number) × (length m.log < greatest_number)
   impatient-low m e =
       let outer = and_parts (nat_le (patience s) m.silent && nat_lt m.term greatest_number) (nat_lt (length m.log) greatest_number) e in
       let inner = and_parts (nat_le (patience s) m.silent) (nat_lt m.term greatest_number) outer.0 in
@@ -76,15 +76,15 @@ module _ (s : Setup) (is : IsSetup s) where
       }
 
   -- a new candidate
-  record Stood (m : Member) : Type 0 where
-    sound : IsSound s (stands s m)
-    stood : IsStanding s (stands s m).term (length (stands s m).log) (stands s m).votes
-    log : (stands s m).log ≡ m.log
-    term : (stands s m).term ≡ m.term + 1
-    commit : (stands s m).commit ≡ m.commit
-    applied : (stands s m).applied ≡ m.applied
+  pub record Stood (m : Member) : Type 0 where
+    pub sound : IsSound s (stands s m)
+    pub stood : IsStanding s (stands s m).term (length (stands s m).log) (stands s m).votes
+    pub log : (stands s m).log ≡ m.log
+    pub term : (stands s m).term ≡ m.term + 1
+    pub commit : (stands s m).commit ≡ m.commit
+    pub applied : (stands s m).applied ≡ m.applied
 
-  stood : (m : Member) → m.term < greatest_number → length m.log < greatest_number → IsSound s m → Stood m
+  pub stood : (m : Member) → m.term < greatest_number → length m.log < greatest_number → IsSound s m → Stood m
   unfolding stands
   stood m low short sound =
       let valid = sound.durable in

@@ -24,14 +24,14 @@ use Rattle.hc_member.proofs.Sound.{sound-waits}
 use Rattle.hc_member.proofs.Storing.{stored-right}
 
 -- what a reaction comes to
-record ReactsWell (s : Setup) (m : Member) (r : Reacted) : Type 0 where
-  sound : IsSound s r.member
-  sends : All IsSent r.sends
-  stores : IsStored (durable_of m) r.stored (durable_of r.member)
-  committed : KeepsCommitted m r.member
+pub record ReactsWell (s : Setup) (m : Member) (r : Reacted) : Type 0 where
+  pub sound : IsSound s r.member
+  pub sends : All IsSent r.sends
+  pub stores : IsStored (durable_of m) r.stored (durable_of r.member)
+  pub committed : KeepsCommitted m r.member
 
 module _ (s : Setup) (is : IsSetup s) where
-  reacts-to : (m : Member) (said : Heard) → IsSayable said → IsSound s m → ReactsWell s m (reacted_to s m said)
+  pub reacts-to : (m : Member) (said : Heard) → IsSayable said → IsSound s m → ReactsWell s m (reacted_to s m said)
   unfolding reacted_to
   reacts-to m said sayable sound =
       let o = settled s (row s m said) in
@@ -40,7 +40,7 @@ module _ (s : Setup) (is : IsSetup s) where
       let comes = goes.comes in
       record { sound = goes.sound; sends = goes.sends; stores = stored-right m o.member o.keep sound.durable after.durable comes; committed = record { commit = goes.commit; applied = (let same = goes.applied in omega (arith, same)); log = sym (same-front m.commit o.keep m.log o.member.log goes.stands comes.front) } }
 
-  sound-received : (m : Member) (event : Event) → All IsShort (receive m.unfinished event).unfinished → IsSound s m → IsSound s (with_received m event)
+  pub sound-received : (m : Member) (event : Event) → All IsShort (receive m.unfinished event).unfinished → IsSound s m → IsSound s (with_received m event)
   unfolding with_received
   sound-received m event short sound =
       sound-waits s m m.pool (receive m.unfinished event).unfinished m.pending m.silent sound sound.pool sound.apart short sound.batch
@@ -53,7 +53,7 @@ module _ (s : Setup) (is : IsSetup s) where
   unfolding with_received
   keeps-received m event n keeps = record { commit = keeps.commit; applied = keeps.applied; log = keeps.log }
 
-  reacts : (m : Member) (event : Event) → HasBytes event → IsSound s m → ReactsWell s m (reacted s m event)
+  pub reacts : (m : Member) (event : Event) → HasBytes event → IsSound s m → ReactsWell s m (reacted s m event)
   unfolding reacted
   reacts m event are sound =
       let heard = received_good m.unfinished event are sound.unfinished in

@@ -1,9 +1,10 @@
-pub mod AddrLists
 pub mod CallLines
 pub mod Commands
 pub mod Ends
-pub mod FirstWords
+pub mod Lists
 pub mod OneMeaning
+pub mod Reading
+pub mod Replays
 pub mod SameTexts
 pub mod Somes
 pub mod Worked

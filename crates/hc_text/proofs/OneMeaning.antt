@@ -1,15 +1,23 @@
 -- Words mean one thing at most.
-use Rattle.std.proofs.Common.{◌≡◌, ℕ, ◌<◌, ◌^◌, List, Option, Some, None, codes, refl, sym, ap, subst, ◌∙◌, arith}
+use Rattle.std.proofs.Common.{◌≡◌, ℕ, ◌<◌, ◌^◌, List, length, Option, Some, None, codes, refl, sym, ap, subst, ◌∙◌, arith, Result, Ok, Err, IfOk, IfErr, MatchResult}
+use Rattle.std.specs.Prelude.{slice_get}
 use Rattle.clap.specs.Words.{Row}
 use Rattle.r2_base.specs.declared.addr.Addr.{Addr}
 use Rattle.r2_base.specs.Addr.{IsAddrText}
-use Rattle.hc_text.specs.declared.meant.Meant.TheVariants.{Router, Server, Client, Replay}
+use Rattle.cmd_script.specs.declared.text_fault.TextFault.{TextFault}
+use Rattle.cmd_script.specs.declared.text_fault.TextFault.TheVariants.{Outside, Memory}
+use Rattle.hc_text.specs.declared.command_name.CommandName.{CommandName}
+use Rattle.hc_text.specs.declared.command_name.CommandName.TheVariants.{Router, Server, Client, Replay}
+use Rattle.hc_text.specs.declared.meant.Meant.{Meant}
+use Rattle.hc_text.specs.declared.meant.Meant.TheVariants as meant
 use Rattle.hc_text.specs.declared.policy.Policy.{Policy}
 use Rattle.hc_text.specs.Laws.{WordsMeanOneThing}
-use Rattle.hc_text.specs.Options.{HasOption, IsNumberText, MayHaveAddr, rows_of_words}
-use Rattle.hc_text.specs.Words.{IsAddrList, policy_word, replay_command, server_command}
-use Rattle.hc_text.proofs.Commands.{client_name, client_only, replay_name, replay_only, router_name, router_only, server_name, server_only}
-use Rattle.hc_text.proofs.SameTexts.{same_addr, same_addrs, same_number, same_policy}
+use Rattle.hc_text.specs.Commands.{command_of, word_of}
+use Rattle.hc_text.specs.Options.{AreTaken, HasOption, MayHaveAddr, rows_of_words}
+use Rattle.hc_text.specs.Texts.{IsAddrList, IsBoundsText, IsMemberText, IsNumberText, IsPolicyText}
+use Rattle.hc_text.specs.Words.{Means, Says, name_of}
+use Rattle.hc_text.proofs.Commands.{Fields, made, means_said, of_name, picks, said, says_made}
+use Rattle.hc_text.proofs.SameTexts.{same_addr, same_addrs, same_bounds, same_member, same_number, same_policy}
 use Rattle.hc_text.proofs.Somes.{none_is_not_some, some_same}
 
 -- an option has one text, so what is said of it is one thing where a text says one thing
@@ -30,8 +38,8 @@ number_same : (least most : ℕ) (rows : List Row) (name : List ℕ) (a b : ℕ)
 number_same least most rows name a b fits one other =
     same_option (IsNumberText least most) rows name a b (λ text p q. same_number least most a b text fits p q) one other
 
-policy_same : (rows : List Row) (name : List ℕ) (a b : Policy) → HasOption rows name (λ text. text ≡ policy_word a) → HasOption rows name (λ text. text ≡ policy_word b) → a ≡ b
-policy_same rows name a b one other = same_option (λ (p : Policy) text. text ≡ policy_word p) rows name a b (same_policy a b) one other
+policy_same : (rows : List Row) (name : List ℕ) (a b : Policy) → HasOption rows name (IsPolicyText a) → HasOption rows name (IsPolicyText b) → a ≡ b
+policy_same rows name a b one other = same_option IsPolicyText rows name a b (same_policy a b) one other
 
 maybe_same : (rows : List Row) (name : List ℕ) (a b : Option Addr) → MayHaveAddr rows name a → MayHaveAddr rows name b → a ≡ b
 maybe_same rows name None None one other = refl
@@ -39,38 +47,73 @@ maybe_same rows name None (Some b) one other = absurd (none_is_not_some other.te
 maybe_same rows name (Some a) None one other = absurd (none_is_not_some one.text (sym other ∙ one.given))
 maybe_same rows name (Some a) (Some b) one other = ap Some (addr_same rows name a b one other)
 
+-- a member's number and the bounds, over the members
+member_same : (rows : List Row) (members others : List Addr) (a b : ℕ) → members ≡ others → length members < 2 ^ 64
+    → HasOption rows (codes "me") (IsMemberText members a) → HasOption rows (codes "me") (IsMemberText others b) → a ≡ b
+member_same rows members others a b same fits one other =
+    same_option (IsMemberText members) rows (codes "me") a b (λ text p q. same_member members a b text fits p q) one
+    (subst (λ (l : List Addr). HasOption rows (codes "me") (IsMemberText l b)) (sym same) other)
+
+bounds_same : (rows : List Row) (members others : List Addr) (a b : List ℕ) → members ≡ others
+    → HasOption rows (codes "bound") (IsBoundsText (length members) a) → HasOption rows (codes "bound") (IsBoundsText (length others) b) → a ≡ b
+bounds_same rows members others a b same one other =
+    same_option (IsBoundsText (length members)) rows (codes "bound") a b (same_bounds (length members) a b) one
+    (subst (λ (l : List Addr). HasOption rows (codes "bound") (IsBoundsText (length l) b)) (sym same) other)
+
+-- options say one thing of a command
+says_one : (name : CommandName) (rows : List Row) (f g : Fields name) → Says (made name f) rows → Says (made name g) rows → made name f ≡ made name g
+says_one Router rows (listen, servers, n, workers, tick_ms, turns) (listen', servers', n', workers', tick_ms', turns') one other =
+    let a = addr_same rows _ listen listen' one.listens other.listens in
+    let b = addrs_same _ rows _ servers servers' one.targets other.targets in
+    let c = number_same _ _ rows _ n n' (omega arith) one.bounded other.bounded in
+    let d = number_same _ _ rows _ workers workers' (omega arith) one.works other.works in
+    let e = number_same _ _ rows _ tick_ms tick_ms' (omega arith) one.ticks other.ticks in
+    let f = number_same _ _ rows _ turns turns' (omega arith) one.ends other.ends in
+    λ i. meant.Router (a i) (b i) (c i) (d i) (e i) (f i)
+says_one Server rows (listen, router, tick_ms, turns) (listen', router', tick_ms', turns') one other =
+    let a = addr_same rows _ listen listen' one.listens other.listens in
+    let b = maybe_same rows (codes "router") router router' one.routed other.routed in
+    let c = number_same _ _ rows _ tick_ms tick_ms' (omega arith) one.ticks other.ticks in
+    let d = number_same _ _ rows _ turns turns' (omega arith) one.ends other.ends in
+    λ i. meant.Server (a i) (b i) (c i) (d i)
+says_one Client rows (listen, to, policy, wait, tries, tick_ms, turns) (listen', to', policy', wait', tries', tick_ms', turns') one other =
+    let a = addr_same rows _ listen listen' one.listens other.listens in
+    let b = addrs_same _ rows _ to to' one.targets other.targets in
+    let c = policy_same rows _ policy policy' one.by_policy other.by_policy in
+    let d = number_same _ _ rows _ wait wait' (omega arith) one.waits other.waits in
+    let e = number_same _ _ rows _ tries tries' (omega arith) one.tried other.tried in
+    let f = number_same _ _ rows _ tick_ms tick_ms' (omega arith) one.ticks other.ticks in
+    let g = number_same _ _ rows _ turns turns' (omega arith) one.ends other.ends in
+    λ i. meant.Client (a i) (b i) (c i) (d i) (e i) (f i) (g i)
+says_one Replay rows (members, me, aggregator, bounds, election) (members', me', aggregator', bounds', election') one other =
+    let a = addrs_same _ rows _ members members' one.group other.group in
+    let b = member_same rows members members' me me' a (omega (arith, one.group.holds.few)) one.own other.own in
+    let c = maybe_same rows (codes "aggregator") aggregator aggregator' one.aggregated other.aggregated in
+    let d = bounds_same rows members members' bounds bounds' a one.bounded other.bounded in
+    let e = number_same _ _ rows _ election election' (omega arith) one.elects other.elects in
+    λ i. meant.Replay (a i) (b i) (c i) (d i) (e i)
+
 pub words_mean_one_thing : WordsMeanOneThing
-words_mean_one_thing words (Router listen servers n workers tick_ms turns) b one other =
-    let q = router_only words b (one.named ∙ ap Some router_name) other in
-    let c = addr_same _ _ listen q.listen one.hold.listens q.says.listens in
-    let d = addrs_same _ _ _ servers q.servers one.hold.targets q.says.targets in
-    let e = number_same _ _ _ _ n q.n (omega arith) one.hold.bounded q.says.bounded in
-    let f = number_same _ _ _ _ workers q.workers (omega arith) one.hold.works q.says.works in
-    let g = number_same _ _ _ _ tick_ms q.tick_ms (omega arith) one.hold.ticks q.says.ticks in
-    let h = number_same _ _ _ _ turns q.turns (omega arith) one.hold.ends q.says.ends in
-    (λ i. Router (c i) (d i) (e i) (f i) (g i) (h i)) ∙ sym q.is
-words_mean_one_thing words (Server listen router tick_ms turns) b one other =
-    let q = server_only words b (one.named ∙ ap Some server_name) other in
-    let c = addr_same _ _ listen q.listen one.hold.listens q.says.listens in
-    let d = maybe_same (rows_of_words server_command words) (codes "router") router q.router one.hold.routed q.says.routed in
-    let e = number_same _ _ _ _ tick_ms q.tick_ms (omega arith) one.hold.ticks q.says.ticks in
-    let f = number_same _ _ _ _ turns q.turns (omega arith) one.hold.ends q.says.ends in
-    (λ i. Server (c i) (d i) (e i) (f i)) ∙ sym q.is
-words_mean_one_thing words (Client listen to policy wait tries tick_ms turns) b one other =
-    let q = client_only words b (one.named ∙ ap Some client_name) other in
-    let c = addr_same _ _ listen q.listen one.hold.listens q.says.listens in
-    let d = addrs_same _ _ _ to q.to one.hold.targets q.says.targets in
-    let e = policy_same _ _ policy q.policy one.hold.by_policy q.says.by_policy in
-    let f = number_same _ _ _ _ wait q.wait (omega arith) one.hold.waits q.says.waits in
-    let g = number_same _ _ _ _ tries q.tries (omega arith) one.hold.tried q.says.tried in
-    let h = number_same _ _ _ _ tick_ms q.tick_ms (omega arith) one.hold.ticks q.says.ticks in
-    let j = number_same _ _ _ _ turns q.turns (omega arith) one.hold.ends q.says.ends in
-    (λ i. Client (c i) (d i) (e i) (f i) (g i) (h i) (j i)) ∙ sym q.is
-words_mean_one_thing words (Replay members me aggregator bound election) b one other =
-    let q = replay_only words b (one.named ∙ ap Some replay_name) other in
-    let c = addrs_same _ _ _ members q.members one.hold.group q.says.group in
-    let d = number_same _ _ _ _ me q.me (omega arith) one.hold.own q.says.own in
-    let e = maybe_same (rows_of_words replay_command words) (codes "aggregator") aggregator q.aggregator one.hold.aggregated q.says.aggregated in
-    let f = number_same _ _ _ _ bound q.bound (omega arith) one.hold.bounded q.says.bounded in
-    let g = number_same _ _ _ _ election q.election (omega arith) one.hold.elects q.says.elects in
-    (λ i. Replay (c i) (d i) (e i) (f i) (g i)) ∙ sym q.is
+words_mean_one_thing words a b one other =
+    let first = said words a (name_of b) (picks words b other) one in
+    let p = of_name a (name_of b) first.is_of in
+    let q = of_name b (name_of b) refl in
+    p.is ∙ says_one (name_of b) _ p.fields q.fields (says_made _ a _ p first.says) (says_made _ b _ q other.hold) ∙ sym q.is
+
+-- what is read of the options of the command that the first word picks is what the words mean
+pub found_by : (r : Result Meant TextFault) (words : List (List ℕ)) (name : CommandName) (rows : List Row) → slice_get words 0 ≡ Some (word_of name) → AreTaken (command_of name) words
+    → rows ≡ rows_of_words (command_of name) words → IfOk r (λ m. name_of m ≡ name) → IfOk r (λ m. Says m rows) → IfOk r (λ m. Means words m)
+found_by (Ok m) words name rows first taken are is_of says = means_said words m name first (record { is_of = is_of; taken = taken; says = subst (Says m) are says })
+found_by (Err e) words name rows first taken are is_of says = tt
+
+-- what is answered where one thing alone is meant
+pub only_meant : (r : Result Meant TextFault) (words : List (List ℕ)) (m : Meant) → IfOk r (λ x. Means words x) → IfErr r (λ e. e ≡ Memory) → Means words m
+    → MatchResult r (λ x. x ≡ m) (λ e. e ≡ Memory)
+only_meant (Ok x) words m found fails means = words_mean_one_thing words x m found means
+only_meant (Err e) words m found fails means = fails
+
+-- what was refused means nothing
+pub not_outside : (r : Result Meant TextFault) → IfErr r (λ e. e ≡ Memory) → r ≡ Err Outside → ⊥
+not_outside r fails is =
+    let at = subst (λ (x : Result Meant TextFault). IfErr x (λ e. e ≡ Memory)) is fails in
+    cc at

@@ -1,8 +1,10 @@
--- A text is that of one number, one address, one list of addresses and one policy.
-use Rattle.std.proofs.Common.{◌≡◌, ℕ, zero, suc, ◌<◌, ◌^◌, List, [], ◌∷◌, ◌++◌, length, get_or, All, decimal, false, refl, sym, ap, ◌∙◌, arith}
+-- A text is that of one number, one address, one policy, one list of addresses and one list of bounds.
+use Rattle.std.proofs.Common.{◌≡◌, ℕ, ◌<◌, ◌≤◌, ◌^◌, List, [], ◌∷◌, ◌++◌, length, map, get_or, decimal, false, inl, inr, refl, sym, ap, subst, ◌∙◌, arith}
 use Rattle.std.specs.Char.{is_ascii_digit}
+use Rattle.std.proofs.Math.ListN.{replicate}
 use Rattle.std.proofs.Math.Seq.{get_or-append_seam}
-use Rattle.std.proofs.lemmas.List.{get_or_append_left}
+use Rattle.std.proofs.lemmas.List.{get_or-replicate, get_or_append_left, length-replicate}
+use Rattle.std.proofs.lemmas.List.Elements.{All-cons, All-nil, All-replicate}
 use Rattle.std.proofs.lemmas.Fmt.{decimal_injective}
 use Rattle.r2_base.specs.declared.addr.Addr.{Addr}
 use Rattle.r2_base.specs.Addr.{IsAddrText, addr_text}
@@ -10,17 +12,17 @@ use Rattle.r2_base.specs.Text.{IsSplit}
 use Rattle.r2_base.proofs.AddrTexts.{from_b, from_c, from_d, addr_from_parts, addr_text-parts, ip_from_bytes, octet_split}
 use Rattle.r2_base.proofs.NumberBytes.{byte_at-lt}
 use Rattle.r2_base.proofs.Splits.{NoneBefore, split-only}
+use Rattle.hc_replier.specs.Bounds.{AreBounds}
 use Rattle.hc_text.specs.declared.policy.Policy.{Policy}
 use Rattle.hc_text.specs.declared.policy.Policy.TheVariants.{Fixed, Jbsq, Replicated}
-use Rattle.hc_text.specs.Options.{IsNumberText}
-use Rattle.hc_text.specs.Words.{IsAddrList, policy_word}
-use Rattle.hc_text.proofs.AddrLists.{address_has_no_comma, joined_text, no_cut}
+use Rattle.hc_text.specs.Texts.{IsAddrList, IsBoundList, IsBoundsText, IsMemberText, IsNumberText, IsOneBound, IsPolicyText}
+use Rattle.hc_text.proofs.Lists.{FitsBound, IsNamed, parts, parts-addrs, parts-bounds, parts-number, same_items}
 
 pub same_number : (least most a b : ℕ) (text : List ℕ) → most < 2 ^ 64 → IsNumberText least most a text → IsNumberText least most b text → a ≡ b
 same_number least most a b text fits one other =
     decimal_injective a b (omega (arith, one.to_most, fits)) (omega (arith, other.to_most, fits)) (sym one.spelled ∙ other.spelled)
 
-pub same_policy : (a b : Policy) (text : List ℕ) → text ≡ policy_word a → text ≡ policy_word b → a ≡ b
+pub same_policy : (a b : Policy) (text : List ℕ) → IsPolicyText a text → IsPolicyText b text → a ≡ b
 same_policy Fixed Fixed text one other = refl
 same_policy Jbsq Jbsq text one other = refl
 same_policy Replicated Replicated text one other = refl
@@ -30,6 +32,8 @@ same_policy Jbsq Fixed text one other = absurd (omega (arith, ap length (sym one
 same_policy Jbsq Replicated text one other = absurd (omega (arith, ap length (sym one ∙ other)))
 same_policy Replicated Fixed text one other = absurd (omega (arith, ap length (sym one ∙ other)))
 same_policy Replicated Jbsq text one other = absurd (omega (arith, ap length (sym one ∙ other)))
+
+-- ---- addresses
 
 -- a text is split at a byte in one way
 same_split : (byte : ℕ) (text front rest front' rest' : List ℕ) → IsSplit byte text front rest → IsSplit byte text front' rest' → (front ≡ front') × (rest ≡ rest')
@@ -56,40 +60,51 @@ same_addr a b text one other =
     let port = decimal_injective a.port b.port (omega (arith, one.port_fits)) (omega (arith, other.port_fits)) fourth.1 in
     addr_from_parts b _ _ _ _ a.ip a.port other.ip_fits first.0 second.0 third.0 fourth.0 (sym (ip_from_bytes a.ip one.ip_fits)) port
 
-abbrev AreNamed : List Addr → Type 0
-AreNamed addrs = All (λ a. IsAddrText a (addr_text a)) addrs
-
-first_named : (a : Addr) (rest : List Addr) → AreNamed (a ∷ rest) → IsAddrText a (addr_text a)
-first_named a rest named = named zero a (omega arith)
-
-rest_named : (a : Addr) (rest : List Addr) → AreNamed (a ∷ rest) → AreNamed rest
-rest_named a rest named = λ k d inside. named (suc k) d (omega (arith, inside))
-
-other_text : (a b : Addr) → IsAddrText b (addr_text b) → addr_text a ≡ addr_text b → IsAddrText b (addr_text a)
-other_text a b named same = record { ip_fits = named.ip_fits; port_is_set = named.port_is_set; port_fits = named.port_fits; spelled = same }
-
-not_one : (a b c : Addr) (rest : List Addr) → IsAddrText a (addr_text a) → IsAddrText b (addr_text b) → addr_text a ≡ joined_text (b ∷ c ∷ rest) → ⊥
-not_one a b c rest one other same =
-    no_cut (addr_text a) (addr_text b) (joined_text (c ∷ rest)) (address_has_no_comma a one) (record { joined = same; first = address_has_no_comma b other })
-
-same_joined : (xs ys : List Addr) → AreNamed xs → AreNamed ys → 0 < length xs → 0 < length ys → joined_text xs ≡ joined_text ys → xs ≡ ys
-same_joined [] ys one other some some' same = absurd (omega arith)
-same_joined (a ∷ xs) [] one other some some' same = absurd (omega arith)
-same_joined (a ∷ []) (b ∷ []) one other some some' same =
-    ap (λ (c : Addr). c ∷ []) (same_addr a b (addr_text a) (first_named a [] one) (other_text a b (first_named b [] other) same))
-same_joined (a ∷ []) (b ∷ c ∷ ys) one other some some' same =
-    absurd (not_one a b c ys (first_named a [] one) (first_named b (c ∷ ys) other) same)
-same_joined (a ∷ c ∷ xs) (b ∷ []) one other some some' same =
-    absurd (not_one b a c xs (first_named b [] other) (first_named a (c ∷ xs) one) (sym same))
-same_joined (a ∷ c ∷ xs) (b ∷ d ∷ ys) one other some some' same =
-    let named = first_named a (c ∷ xs) one in
-    let named' = first_named b (d ∷ ys) other in
-    let cut = same_split 44 (joined_text (a ∷ c ∷ xs)) (addr_text a) (joined_text (c ∷ xs)) (addr_text b) (joined_text (d ∷ ys))
-    (record { joined = refl; first = address_has_no_comma a named }) (record { joined = same; first = address_has_no_comma b named' }) in
-    let first = same_addr a b (addr_text a) named (other_text a b named' cut.0) in
-    let others = same_joined (c ∷ xs) (d ∷ ys) (rest_named a (c ∷ xs) one) (rest_named b (d ∷ ys) other) (omega arith) (omega arith) cut.1 in
-    λ i. first i ∷ others i
+pub addr_known : (a b : Addr) → IsNamed a → IsNamed b → addr_text a ≡ addr_text b → a ≡ b
+addr_known a b one other same =
+    same_addr a b (addr_text a) one (record { ip_fits = other.ip_fits; port_is_set = other.port_is_set; port_fits = other.port_fits; spelled = same })
 
 pub same_addrs : (most : ℕ) (xs ys : List Addr) (text : List ℕ) → IsAddrList most xs text → IsAddrList most ys text → xs ≡ ys
 same_addrs most xs ys text one other =
-    same_joined xs ys one.named other.named (omega (arith, one.some)) (omega (arith, other.some)) (sym one.joined ∙ other.joined)
+    same_items IsNamed addr_text addr_known xs ys one.named other.named (sym (parts-addrs xs text one) ∙ parts-addrs ys text other)
+
+pub same_member : (members : List Addr) (a b : ℕ) (text : List ℕ) → length members < 2 ^ 64 → IsMemberText members a text → IsMemberText members b text → a ≡ b
+same_member members a b text fits one other =
+    decimal_injective a b (omega (arith, one.is_member, fits)) (omega (arith, other.is_member, fits)) (sym one.spelled ∙ other.spelled)
+
+-- ---- bounds
+
+pub bound_known : (a b : ℕ) → FitsBound a → FitsBound b → decimal a ≡ decimal b → a ≡ b
+bound_known a b one other same = decimal_injective a b (omega (arith, one)) (omega (arith, other)) same
+
+-- one bound for each of one member is a list of one
+pub one_of_one : {members : ℕ} (bounds each text : List ℕ) → IsOneBound members bounds text → IsBoundList members each text → bounds ≡ each
+one_of_one bounds each text one list =
+    let whole : map decimal each ≡ map decimal (one.bound ∷ []) =
+    sym (parts-bounds each text list) ∙ ap parts one.number.spelled ∙ parts-number one.bound (omega (arith, one.number.to_most)) in
+    let single : each ≡ one.bound ∷ [] =
+    same_items FitsBound decimal bound_known each (one.bound ∷ []) list.valid.each (All-cons FitsBound one.bound [] one.number.to_most (All-nil FitsBound)) whole in
+    one.for_all ∙ ap (λ n. replicate n one.bound) (sym list.one_each ∙ ap length single) ∙ sym single
+
+pub same_bounds : (members : ℕ) (xs ys text : List ℕ) → IsBoundsText members xs text → IsBoundsText members ys text → xs ≡ ys
+same_bounds members xs ys text (inl one) (inl other) =
+    one.for_all ∙ ap (replicate members) (same_number 1 1024 one.bound other.bound text (omega arith) one.number other.number) ∙ sym other.for_all
+same_bounds members xs ys text (inl one) (inr other) = one_of_one xs ys text one other
+same_bounds members xs ys text (inr one) (inl other) = sym (one_of_one ys xs text other one)
+same_bounds members xs ys text (inr one) (inr other) =
+    same_items FitsBound decimal bound_known xs ys one.valid.each other.valid.each (sym (parts-bounds xs text one) ∙ parts-bounds ys text other)
+
+-- bounds of a group are such as it may have, one for each member
+pub bounds_valid : (members : ℕ) (bounds text : List ℕ) → 1 ≤ members → members ≤ 7 → IsBoundsText members bounds text → AreBounds bounds × (length bounds ≡ members)
+bounds_valid members bounds text some few (inr list) = (list.valid, list.one_each)
+bounds_valid members bounds text some few (inl one) = subst (λ bounds. AreBounds bounds × (length bounds ≡ members)) (sym one.for_all) (valid, size)
+  where
+    size : length (replicate members one.bound) ≡ members
+    size = length-replicate members one.bound
+
+    valid : AreBounds (replicate members one.bound)
+    valid = record {
+      few = omega (arith, size);
+      each = All-replicate FitsBound members one.bound one.number.to_most;
+      some = (0, one.bound, omega (arith, size), get_or-replicate members 0 one.bound one.bound (omega arith), omega (arith, one.number.from_least));
+    }

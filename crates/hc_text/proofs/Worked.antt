@@ -1,5 +1,5 @@
 -- The laws of lines, of words and of printed ends.
-use Rattle.std.proofs.Common.{◌≡◌, ◌≢◌, ℕ, ◌<◌, ◌≤◌, ◌^◌, List, [], ◌∷◌, ◌++◌, length, Some, codes, refl, ap, ◌∙◌, arith, inl, inr, length-append}
+use Rattle.std.proofs.Common.{◌≡◌, ℕ, ◌<◌, ◌≤◌, ◌^◌, List, [], ◌∷◌, ◌++◌, length, Some, codes, refl, ap, ◌∙◌, arith, inl, inr, length-append}
 use Rattle.std.specs.Prelude.{slice_get}
 use Rattle.clap.proofs.OnLiterals.{clap_on_literals}
 use Rattle.hex.proofs.HexLemmas.{decode_of-ok}
@@ -7,12 +7,15 @@ use Rattle.hc_store.specs.Command.{Command, Get, Put, Del, Cas, Scan, Count}
 use Rattle.hc_store.specs.Spelling.{FitsCommand}
 use Rattle.hc_store.specs.Replies.{payload_of}
 use Rattle.hc_store.proofs.Spells.{a_spelling_is_read}
+use Rattle.hc_text.specs.declared.command_name.CommandName.{CommandName}
+use Rattle.hc_text.specs.declared.command_name.CommandName.TheVariants.{Router, Server, Client, Replay}
 use Rattle.hc_text.specs.Call.{IsValueText, Says, Spaced}
 use Rattle.hc_text.specs.End.{end_text}
 use Rattle.hc_text.specs.Options.{AreTaken, rows_of_words}
-use Rattle.hc_text.specs.Words.{server_command}
+use Rattle.hc_text.specs.Commands.{server_command, word_of}
+use Rattle.hc_text.specs.Words.{name_of}
 use Rattle.hc_text.specs.Laws.{AnswersArePrinted, LinesAreServed, MeanNothing, SomeAreTaken, SomeMeanNothing}
-use Rattle.hc_text.proofs.Commands.{named_only, server_only}
+use Rattle.hc_text.proofs.Commands.{picks, said}
 use Rattle.hc_text.proofs.Ends.{reply_text-whole}
 use Rattle.hc_text.proofs.Somes.{some_same, none_is_not_some}
 
@@ -55,24 +58,20 @@ unfolding end_text payload_of
 answers_are_printed index status value fits = ap (λ t. t ++ 10 ∷ []) (reply_text-whole index status value fits)
 
 nothing_without_words : MeanNothing []
-nothing_without_words meant means =
-    named_only [] meant means (λ is. none_is_not_some _ is) (λ is. none_is_not_some _ is) (λ is. none_is_not_some _ is) (λ is. none_is_not_some _ is)
+nothing_without_words meant means = none_is_not_some _ (picks [] meant means)
 
--- the first letter of another word
-other_first : (a b : List ℕ) → length a ≢ length b → Some a ≡ Some b → ⊥
-other_first a b other same = other (ap length (some_same a b same))
+no_command_is_fly : (name : CommandName) → codes "fly" ≡ word_of name → ⊥
+no_command_is_fly Router same = absurd (omega (arith, ap length same))
+no_command_is_fly Server same = absurd (omega (arith, ap length same))
+no_command_is_fly Client same = absurd (omega (arith, ap length same))
+no_command_is_fly Replay same = absurd (omega (arith, ap length same))
 
 fly_means_nothing : MeanNothing (codes "fly" ∷ [])
-fly_means_nothing meant means =
-    named_only (codes "fly" ∷ []) meant means
-    (λ is. other_first (codes "fly") (codes "router") (λ same. absurd (omega (arith, same))) is)
-    (λ is. other_first (codes "fly") (codes "server") (λ same. absurd (omega (arith, same))) is)
-    (λ is. other_first (codes "fly") (codes "client") (λ same. absurd (omega (arith, same))) is)
-    (λ is. other_first (codes "fly") (codes "replay") (λ same. absurd (omega (arith, same))) is)
+fly_means_nothing meant means = no_command_is_fly (name_of meant) (some_same _ _ (picks (codes "fly" ∷ []) meant means))
 
 -- words that `clap` refuses as options of a server
 refused : (words : List (List ℕ)) → slice_get words 0 ≡ Some (codes "server") → (AreTaken server_command words → ⊥) → MeanNothing words
-refused words first not_taken meant means = not_taken (server_only words meant first means).taken
+refused words first not_taken meant means = not_taken (said words meant Server first means).taken
 
 missing_refused : AreTaken server_command (codes "server" ∷ []) → ⊥
 unfolding AreTaken server_command clap_on_literals

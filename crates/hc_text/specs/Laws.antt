@@ -8,7 +8,8 @@ use Rattle.hc_text.specs.declared.meant.Meant.{Meant}
 use Rattle.hc_text.specs.Call.{Says, IsCallLine, call_of}
 use Rattle.hc_text.specs.End.{end_text, served_text}
 use Rattle.hc_text.specs.Options.{AreTaken, rows_of_words}
-use Rattle.hc_text.specs.Words.{Means, server_command}
+use Rattle.hc_text.specs.Commands.{server_command}
+use Rattle.hc_text.specs.Words.{Means}
 
 -- the service reads a body that a command's line asks for as that command; a line of 8,192 bytes is short enough for its fields
 abbrev pub LinesAreServed : Type 0

@@ -1,9 +1,11 @@
 -- The options of a command, as `clap` takes them from the words.
-use Rattle.std.specs.Prelude.{◌≡◌, ℕ, ◌≤◌, List, [], ◌∷◌, Option, Some, None, true, slice_get, decimal}
+use Rattle.std.specs.Prelude.{◌≡◌, ℕ, List, [], ◌∷◌, Option, Some, None, true, slice_get}
 use Rattle.clap.specs.Words.{App, Row, Rule, first_of, fault_of, is_simple, is_simple_and_free, matches_of, new_rule}
 use Rattle.clap.specs.Simple.{new_shape}
 use Rattle.r2_base.specs.declared.addr.Addr.{Addr}
 use Rattle.r2_base.specs.Addr.{IsAddrText}
+use Rattle.hc_text.specs.declared.options.OptionRule.{OptionRule}
+use Rattle.hc_text.specs.declared.options.OptionRule.TheVariants.{Required, Optional, Defaulted}
 
 -- an option that must be given
 abbrev pub required : List ℕ → Rule
@@ -16,6 +18,12 @@ optional name = record (new_rule name) { long = Some name }
 -- an option that has this text where it is left out
 abbrev pub defaulted : List ℕ → List ℕ → Rule
 defaulted name text = record (new_rule name) { long = Some name; defaults = text ∷ [] }
+
+-- what `clap` is told of an option
+abbrev pub told : OptionRule → Rule
+told (Required name) = required name.now
+told (Optional name) = optional name.now
+told (Defaulted name text) = defaulted name.now text.now
 
 -- a command with these options, and no flags for help and version
 abbrev pub command_with : List ℕ → List Rule → App
@@ -38,12 +46,6 @@ pub record HasOption (rows : List Row) (name : List ℕ) (Holds : List ℕ → T
 abbrev pub MayHaveAddr : List Row → List ℕ → Option Addr → Type 0
 MayHaveAddr rows name None = first_of name rows ≡ None
 MayHaveAddr rows name (Some a) = HasOption rows name (IsAddrText a)
-
--- the text is the number in decimal, and the number is in its range
-pub record IsNumberText (least most n : ℕ) (text : List ℕ) : Type 0 where
-  pub from_least : least ≤ n
-  pub to_most : n ≤ most
-  pub spelled : text ≡ decimal n
 
 -- `clap` takes the words after the first as options of the command
 unfoldable pub AreTaken : App → List (List ℕ) → Type 0

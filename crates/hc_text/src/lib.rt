@@ -1,11 +1,11 @@
 //! What the words of a command line and the lines of a script mean, and the lines that are printed.
 #![tactic(auto)]
 
-mod addr_list;
 mod body;
 mod call;
 mod calls;
 mod client_words;
+mod command_name;
 mod end;
 pub mod laws;
 mod meant;
@@ -14,6 +14,7 @@ mod policy;
 mod replay_words;
 mod router_words;
 mod server_words;
+mod texts;
 mod value;
 mod words;
 

@@ -1,4 +1,5 @@
 use crate::policy::Policy;
+use hc_replier::Bounds;
 use r2_base::{Addr, Addrs};
 
 /// What the words of a command line ask for.
@@ -40,8 +41,8 @@ pub enum Meant {
         members: Addrs,
         me: u8,
         aggregator: Option<Addr>,
-        /// How many replies a replier may owe.
-        bound: u16,
+        /// For each member, how many entries it may have to answer at a time.
+        bounds: Bounds,
         election: u32,
     },
 }

@@ -1,133 +1,197 @@
-ghost use Rattle.std.specs.Prelude.{◌≡◌, ◌≤◌, ℕ, List, [], false, Option, map, option_map, IfOk, IfErr, IfSome, MatchResult};
+ghost use Rattle.std.specs.Prelude.{◌≡◌, ◌≤◌, ℕ, List, Option, Some, [], false, map, option_map, IfOk, IfErr, IsOkAnd, MatchResult};
 ghost use Rattle.std.specs.String.{string_bytes};
-ghost use Rattle.clap.specs.Words.{app_of, first_of, found_of, rows_of, rule_of, with_rule};
+ghost use Rattle.clap.specs.Words.{app_of, first_of, rule_of, with_rule};
 ghost use Rattle.r2_base.specs.declared.addr.Addr.{Addr as AddrSpec};
 ghost use Rattle.r2_base.specs.Addr.{IsAddrText};
-ghost use Rattle.hc_text.specs.Words.{IsAddrList};
-ghost use Rattle.hc_text.specs.Options.{command_with, defaulted, optional, required, rows_of_words, AreTaken, HasOption, IsNumberText, IsSimpleCommand, MayHaveAddr};
+ghost use Rattle.hc_text.specs.declared.policy.Policy.{Policy as PolicySpec};
+ghost use Rattle.hc_text.specs.Options.{command_with, rows_of_words, told, AreTaken, HasOption, IsSimpleCommand, MayHaveAddr};
+ghost use Rattle.hc_text.specs.Texts.{IsAddrList, IsBoundsText, IsNumberText, IsPolicyText};
 
-use crate::addr_list::read_addr_list;
+use crate::policy::{Policy, read_policy};
+use crate::texts::{read_addr_list, read_bounds, read_number};
 use clap::error::ErrorKind;
 use clap::{Arg, ArgMatches, Command};
 use cmd_script::TextFault;
-use r2_base::{Addr, Addrs, NoMemory, read_addr, read_decimal};
+use hc_replier::Bounds;
+use r2_base::{Addr, Addrs, NoMemory, read_addr};
 use std::alloc::Global;
+use std::marker::Model;
 
-/// A command with no options yet, and no flags for help and version.
-pub(crate) fn bare<'a>(alloc: Global, name: &'a str) -> Command<'a>
-    ensures { app_of result ≡ command_with name.entry.now [] }
+/// An option of a command.
+#[derive(Debug, Clone, Copy)]
+pub(crate) enum OptionRule<'a> {
+    /// It must be given.
+    Required(&'a str),
+    /// It may be left out.
+    Optional(&'a str),
+    /// It has this text where it is left out.
+    Defaulted(&'a str, &'a str),
+}
+
+impl<'a> OptionRule<'a> {
+    /// What `clap` is told of it.
+    fn told(self, alloc: Global) -> Arg<'a>
+        ensures rule { rule_of result ≡ told self.entry }
+        ensures local { result.global ≡ false }
+    {
+        match self {
+            OptionRule::Required(name) => Arg::new(alloc, name).long(name).required(true),
+            OptionRule::Optional(name) => Arg::new(alloc, name).long(name),
+            OptionRule::Defaulted(name, text) => {
+                Arg::new(alloc, name).long(name).default_value(text)
+            }
+        }
+    }
+}
+
+/// A command with these options, and no flags for help and version.
+pub(crate) fn command_with<'a>(
+    alloc: Global,
+    name: &'a str,
+    rules: &[OptionRule<'a>],
+) -> Result<Command<'a>, NoMemory>
+    ensures { IfOk result (λ c. app_of c ≡ command_with name.entry.now (map told rules.now)) }
 {
-    Command::new(alloc, name)
+    let mut command = Command::new(alloc, name)
         .disable_help_flag(true)
-        .disable_version_flag(true)
-}
-
-/// An option that must be given.
-pub(crate) fn required<'a>(alloc: Global, name: &'a str) -> Arg<'a>
-    ensures rule { rule_of result ≡ required name.entry.now }
-    ensures local { result.global ≡ false }
-{
-    Arg::new(alloc, name).long(name).required(true)
-}
-
-/// An option that may be left out.
-pub(crate) fn optional<'a>(alloc: Global, name: &'a str) -> Arg<'a>
-    ensures rule { rule_of result ≡ optional name.entry.now }
-    ensures local { result.global ≡ false }
-{
-    Arg::new(alloc, name).long(name)
-}
-
-/// An option that has this text where it is left out.
-pub(crate) fn defaulted<'a>(alloc: Global, name: &'a str, text: &'a str) -> Arg<'a>
-    ensures rule { rule_of result ≡ defaulted name.entry.now text.entry.now }
-    ensures local { result.global ≡ false }
-{
-    Arg::new(alloc, name).long(name).default_value(text)
+        .disable_version_flag(true);
+    'rules: for rule in rules {
+        command = with(command, rule.told(alloc))?;
+    }
+    Ok(command)
 }
 
 /// The command with one more option.
-pub(crate) fn with<'a>(command: Command<'a>, option: Arg<'a>) -> Result<Command<'a>, NoMemory>
+fn with<'a>(command: Command<'a>, option: Arg<'a>) -> Result<Command<'a>, NoMemory>
     ensures { option.entry.global ≡ false → IfOk result (λ c. app_of c ≡ with_rule (app_of command.entry) (rule_of option.entry)) }
 {
     Ok(command.arg(option)?)
 }
 
-/// The options that the words after the first give to the command.
-#[tactic(auto, unfolding(crate::specs::Options::AreTaken, crate::specs::Options::rows_of_words))]
-pub(crate) fn parse<'a>(
-    command: Command<'a>,
-    words: &'a [String],
-) -> Result<ArgMatches<'a>, TextFault>
-    ensures taken { IsSimpleCommand (app_of command.entry) → IfOk result (λ m. AreTaken (app_of command.entry) (map (λ w. string_bytes w) words.entry.now)) }
-    ensures rows { IsSimpleCommand (app_of command.entry) → IfOk result (λ m. rows_of (found_of m) ≡ rows_of_words (app_of command.entry) (map (λ w. string_bytes w) words.entry.now)) }
-    ensures only { IsSimpleCommand (app_of command.entry) → AreTaken (app_of command.entry) (map (λ w. string_bytes w) words.entry.now)
-        → IfErr result (λ e. e ≡ TextFault.Memory) }
-{
-    match command.try_get_matches_from(words) {
-        Ok(matches) => Ok(matches),
-        Err(e) => match e.kind() {
-            ErrorKind::OutOfMemory => Err(TextFault::Memory),
-            _ => Err(TextFault::Outside),
-        },
+/// The options that words give to a command, each with its text, given or its own.
+#[derive(Drop)]
+pub(crate) struct Options<'a> {
+    matches: ArgMatches<'a>,
+}
+
+impl<'a> Model for Options<'a> {
+    ghost use Rattle.std.specs.Prelude.{List};
+    ghost use Rattle.clap.specs.Words.{Row, found_of, rows_of};
+
+    ghost Value = { List Row };
+
+    ghost view = { λ o. rows_of (found_of o.matches) };
+}
+
+impl<'a> Options<'a> {
+    /// The options that the words after the first give to the command.
+    #[tactic(auto, unfolding(crate::specs::Options::AreTaken, crate::specs::Options::rows_of_words))]
+    pub(crate) fn read(command: Command<'a>, words: &'a [String]) -> Result<Self, TextFault>
+        ensures taken { IsSimpleCommand (app_of command.entry) → IfOk result (λ _. AreTaken (app_of command.entry) (map (λ w. string_bytes w) words.entry.now)) }
+        ensures rows { IsSimpleCommand (app_of command.entry) → IfOk result (λ rows. rows ≡ rows_of_words (app_of command.entry) (map (λ w. string_bytes w) words.entry.now)) }
+        ensures only { IsSimpleCommand (app_of command.entry) → AreTaken (app_of command.entry) (map (λ w. string_bytes w) words.entry.now)
+            → IfErr result (λ e. e ≡ TextFault.Memory) }
+    {
+        match command.try_get_matches_from(words) {
+            Ok(matches) => Ok(Options { matches }),
+            Err(e) => match e.kind() {
+                ErrorKind::OutOfMemory => Err(TextFault::Memory),
+                _ => Err(TextFault::Outside),
+            },
+        }
     }
-}
 
-/// The text of the option, given or its own.
-pub(crate) fn text_of<'a>(matches: &ArgMatches<'a>, name: &str) -> Option<&'a str>
-    ensures { option_map (λ s. s.now) result ≡ first_of name.now (rows_of (found_of matches.now)) }
-{
-    matches.get_str(name)
-}
-
-/// The address that the option names.
-pub(crate) fn addr_of(matches: &ArgMatches, name: &str) -> Option<Addr>
-    ensures found { IfSome result (λ a. HasOption (rows_of (found_of matches.now)) name.now (IsAddrText a)) }
-    ensures only { (a : AddrSpec) → HasOption (rows_of (found_of matches.now)) name.now (IsAddrText a) → result ≡ Some a }
-{
-    let text = text_of(matches, name)?;
-    read_addr(text.as_bytes())
-}
-
-/// The address that the option names, where it is given.
-pub(crate) fn optional_addr_of(matches: &ArgMatches, name: &str) -> Option<Option<Addr>>
-    ensures found { IfSome result (λ a. MayHaveAddr (rows_of (found_of matches.now)) name.now a) }
-    ensures only { (a : Option AddrSpec) → MayHaveAddr (rows_of (found_of matches.now)) name.now a → result ≡ Some a }
-{
-    let Some(text) = text_of(matches, name) else {
-        return Some(None);
-    };
-    let addr = read_addr(text.as_bytes())?;
-    Some(Some(addr))
-}
-
-/// The number of the option, from `least` to `most`.
-pub(crate) fn number_of(matches: &ArgMatches, name: &str, least: u64, most: u64) -> Option<u64>
-    ensures found { IfSome result (λ n. HasOption (rows_of (found_of matches.now)) name.now (IsNumberText least most n)) }
-    ensures only { (n : ℕ) → HasOption (rows_of (found_of matches.now)) name.now (IsNumberText least most n) → result ≡ Some n }
-{
-    let text = text_of(matches, name)?;
-    let n = read_decimal(text.as_bytes(), most)?;
-    if n < least {
-        return None;
+    /// The text of an option, where it has one.
+    fn text(&self, name: &str) -> Option<&'a str>
+        ensures { option_map (λ s. s.now) result ≡ first_of name.now self.now }
+    {
+        self.matches.get_str(name)
     }
-    Some(n)
-}
 
-/// The addresses of the option, joined by commas, `most` of them at most.
-pub(crate) fn addrs_of(
-    alloc: Global,
-    matches: &ArgMatches,
-    name: &str,
-    most: u64,
-) -> Result<Addrs, TextFault>
-    requires { 1 ≤ most }
-    ensures found { IfOk result (λ addrs. HasOption (rows_of (found_of matches.now)) name.now (IsAddrList most addrs)) }
-    ensures only { (addrs : List AddrSpec) → HasOption (rows_of (found_of matches.now)) name.now (IsAddrList most addrs)
-        → MatchResult result (λ r. r ≡ addrs) (λ e. e ≡ TextFault.Memory) }
-{
-    let Some(text) = text_of(matches, name) else {
-        return Err(TextFault::Outside);
-    };
-    read_addr_list(alloc, text.as_bytes(), most)
+    /// The text of an option that has one.
+    fn given(&self, name: &str) -> Result<&'a str, TextFault>
+        ensures found { IfOk result (λ s. first_of name.now self.now ≡ Some s.now) }
+        ensures only { (text : List ℕ) → first_of name.now self.now ≡ Some text → IsOkAnd result (λ s. s.now ≡ text) }
+    {
+        match self.text(name) {
+            Some(text) => Ok(text),
+            None => Err(TextFault::Outside),
+        }
+    }
+
+    /// The address that the option names.
+    pub(crate) fn addr(&self, name: &str) -> Result<Addr, TextFault>
+        ensures found { IfOk result (λ a. HasOption self.now name.now (IsAddrText a)) }
+        ensures only { (a : AddrSpec) → HasOption self.now name.now (IsAddrText a) → MatchResult result (λ r. r ≡ a) (λ e. e ≡ TextFault.Memory) }
+    {
+        let text = self.given(name)?;
+        match read_addr(text.as_bytes()) {
+            Some(addr) => Ok(addr),
+            None => Err(TextFault::Outside),
+        }
+    }
+
+    /// The address that the option names, where it is given.
+    pub(crate) fn optional_addr(&self, name: &str) -> Result<Option<Addr>, TextFault>
+        ensures found { IfOk result (λ a. MayHaveAddr self.now name.now a) }
+        ensures only { (a : Option AddrSpec) → MayHaveAddr self.now name.now a → MatchResult result (λ r. r ≡ a) (λ e. e ≡ TextFault.Memory) }
+    {
+        let Some(text) = self.text(name) else {
+            return Ok(None);
+        };
+        match read_addr(text.as_bytes()) {
+            Some(addr) => Ok(Some(addr)),
+            None => Err(TextFault::Outside),
+        }
+    }
+
+    /// The number of the option, from `least` to `most`.
+    pub(crate) fn number(&self, name: &str, least: u64, most: u64) -> Result<u64, TextFault>
+        ensures found { IfOk result (λ n. HasOption self.now name.now (IsNumberText least most n)) }
+        ensures only { (n : ℕ) → HasOption self.now name.now (IsNumberText least most n) → MatchResult result (λ r. r ≡ n) (λ e. e ≡ TextFault.Memory) }
+    {
+        let text = self.given(name)?;
+        match read_number(text.as_bytes(), least, most) {
+            Some(n) => Ok(n),
+            None => Err(TextFault::Outside),
+        }
+    }
+
+    /// The policy that the option names.
+    pub(crate) fn policy(&self, name: &str) -> Result<Policy, TextFault>
+        ensures found { IfOk result (λ p. HasOption self.now name.now (IsPolicyText p)) }
+        ensures only { (p : PolicySpec) → HasOption self.now name.now (IsPolicyText p) → MatchResult result (λ r. r ≡ p) (λ e. e ≡ TextFault.Memory) }
+    {
+        let text = self.given(name)?;
+        match read_policy(text) {
+            Some(policy) => Ok(policy),
+            None => Err(TextFault::Outside),
+        }
+    }
+
+    /// The addresses of the option, joined by commas, all distinct, 1 to `most` of them.
+    pub(crate) fn addrs(&self, alloc: Global, name: &str, most: usize) -> Result<Addrs, TextFault>
+        ensures found { IfOk result (λ addrs. HasOption self.now name.now (IsAddrList most addrs)) }
+        ensures only { (addrs : List AddrSpec) → HasOption self.now name.now (IsAddrList most addrs)
+            → MatchResult result (λ r. r ≡ addrs) (λ e. e ≡ TextFault.Memory) }
+    {
+        let text = self.given(name)?;
+        read_addr_list(alloc, text, most)
+    }
+
+    /// The bounds of the option: one number from 1 to 1,024, which holds for all members, or one number from 0 to 1,024 for each
+    /// of them, joined by commas, not all 0.
+    pub(crate) fn bounds(
+        &self,
+        alloc: Global,
+        name: &str,
+        members: usize,
+    ) -> Result<Bounds, TextFault>
+        ensures found { IfOk result (λ bounds. HasOption self.now name.now (IsBoundsText members bounds)) }
+        ensures only { (bounds : List ℕ) → HasOption self.now name.now (IsBoundsText members bounds)
+            → MatchResult result (λ r. r ≡ bounds) (λ e. e ≡ TextFault.Memory) }
+    {
+        let text = self.given(name)?;
+        read_bounds(alloc, text, members)
+    }
 }

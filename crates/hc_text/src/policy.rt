@@ -1,5 +1,7 @@
-ghost use Rattle.std.specs.Prelude.{◌≡◌};
+ghost use Rattle.std.specs.Prelude.{◌≡◌, Some, IfSome};
+ghost use Rattle.hc_text.specs.declared.policy.Policy.{Policy as PolicySpec};
 ghost use Rattle.hc_text.specs.Policy.{policy_number};
+ghost use Rattle.hc_text.specs.Texts.{IsPolicyText};
 
 use r2_header::policy::{FIXED, JBSQ, REPLICATED, REPLICATED_READ};
 
@@ -25,4 +27,21 @@ pub fn policy_of(policy: Policy, read: bool) -> u8
         Policy::Jbsq => JBSQ,
         Policy::Replicated => { if read { REPLICATED_READ } else { REPLICATED } }
     }
+}
+
+/// The policy that the word names.
+pub(crate) fn read_policy(word: &str) -> Option<Policy>
+    ensures found { IfSome result (λ p. IsPolicyText p word.now) }
+    ensures only { (p : PolicySpec) → IsPolicyText p word.now → result ≡ Some p }
+{
+    if word == "fixed" {
+        return Some(Policy::Fixed);
+    }
+    if word == "jbsq" {
+        return Some(Policy::Jbsq);
+    }
+    if word == "replicated" {
+        return Some(Policy::Replicated);
+    }
+    None
 }

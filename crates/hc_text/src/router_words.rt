@@ -1,76 +1,49 @@
-ghost use Rattle.std.specs.Prelude.{◌≡◌, ℕ, List, Some, map, slice_get, codes, IfOk, MatchResult};
-ghost use Rattle.std.specs.String.{string_bytes};
-ghost use Rattle.clap.specs.Words.{app_of, found_of, rows_of};
+ghost use Rattle.std.specs.Prelude.{◌≡◌, ℕ, List, IfOk, IfErr};
+ghost use Rattle.clap.specs.Words.{app_of};
 ghost use Rattle.r2_base.specs.declared.addr.Addr.{Addr as AddrSpec};
-ghost use Rattle.hc_text.specs.declared.meant.Meant.{Meant as MeantSpec};
-ghost use Rattle.hc_text.specs.Words.{command_of, router_command, Means, Says, SaysRouter};
+ghost use Rattle.hc_text.specs.declared.command_name.CommandName.TheVariants as names;
+ghost use Rattle.hc_text.specs.Commands.{router_command};
+ghost use Rattle.hc_text.specs.Words.{name_of, Says, SaysRouter};
 
 use crate::meant::Meant;
-use crate::options::{addr_of, addrs_of, bare, defaulted, number_of, parse, required, with};
-use clap::{ArgMatches, Command};
+use crate::options::OptionRule::{Defaulted, Required};
+use crate::options::{Options, command_with};
+use clap::Command;
 use cmd_script::TextFault;
-use r2_base::NoMemory;
+use r2_base::{MOST_TURNS, NoMemory};
 use std::alloc::Global;
 
-/// What the words of the command `router` mean.
-pub(crate) fn router_meaning(alloc: Global, words: &[String]) -> Result<Meant, TextFault>
-    requires { slice_get (map (λ w. string_bytes w) words.now) 0 ≡ Some (codes "router") }
-    ensures found { IfOk result (λ m. Means (map (λ w. string_bytes w) words.now) m) }
-    ensures only { (m : MeantSpec) → Means (map (λ w. string_bytes w) words.now) m
-        → MatchResult result (λ r. r ≡ m) (λ e. e ≡ TextFault.Memory) }
-{
-    let command = router_command(alloc)?;
-    let matches = match parse(command, words) {
-        Ok(matches) => matches,
-        Err(fault) => return Err(fault),
-    };
-    read_router(alloc, &matches)
-}
-
-fn router_command<'a>(alloc: Global) -> Result<Command<'a>, NoMemory>
+#[tactic(auto, unfolding(crate::specs::Commands::router_command))]
+pub(crate) fn router_command<'a>(alloc: Global) -> Result<Command<'a>, NoMemory>
     ensures { IfOk result (λ c. app_of c ≡ router_command) }
 {
-    let command = bare(alloc, "router");
-    let command = with(command, required(alloc, "listen"))?;
-    let command = with(command, required(alloc, "servers"))?;
-    let command = with(command, defaulted(alloc, "n", "2"))?;
-    let command = with(command, defaulted(alloc, "workers", "1"))?;
-    let command = with(command, defaulted(alloc, "tick-ms", "100"))?;
-    with(command, defaulted(alloc, "turns", "72057594037927936"))
+    command_with(
+        alloc,
+        "router",
+        &[
+            Required("listen"),
+            Required("servers"),
+            Defaulted("n", "2"),
+            Defaulted("workers", "1"),
+            Defaulted("tick-ms", "100"),
+            Defaulted("turns", "72057594037927936"),
+        ],
+    )
 }
 
-fn read_router(alloc: Global, matches: &ArgMatches) -> Result<Meant, TextFault>
-    ensures kind { IfOk result (λ m. command_of m ≡ router_command) }
-    ensures found { IfOk result (λ m. Says m (rows_of (found_of matches.now))) }
+/// What the options of the command `router` say.
+pub(crate) fn read_router(alloc: Global, options: &Options) -> Result<Meant, TextFault>
+    ensures name { IfOk result (λ m. name_of m ≡ names.Router) }
+    ensures found { IfOk result (λ m. Says m options.now) }
     ensures only { (listen : AddrSpec) (servers : List AddrSpec) (n workers tick_ms turns : ℕ)
-        → SaysRouter listen servers n workers tick_ms turns (rows_of (found_of matches.now))
-        → MatchResult result (λ r. r ≡ Meant.Router listen servers n workers tick_ms turns) (λ e. e ≡ TextFault.Memory) }
+        → SaysRouter listen servers n workers tick_ms turns options.now → IfErr result (λ e. e ≡ TextFault.Memory) }
 {
-    let Some(listen) = addr_of(matches, "listen") else {
-        return Err(TextFault::Outside);
-    };
-    let Some(n) = number_of(matches, "n", 1, 16) else {
-        return Err(TextFault::Outside);
-    };
-    let Some(workers) = number_of(matches, "workers", 1, 1) else {
-        return Err(TextFault::Outside);
-    };
-    let Some(tick_ms) = number_of(matches, "tick-ms", 1, 1_000) else {
-        return Err(TextFault::Outside);
-    };
-    let Some(turns) = number_of(matches, "turns", 1, 72_057_594_037_927_936) else {
-        return Err(TextFault::Outside);
-    };
-    let servers = match addrs_of(alloc, matches, "servers", 64) {
-        Ok(servers) => servers,
-        Err(fault) => return Err(fault),
-    };
     Ok(Meant::Router {
-        listen,
-        servers,
-        n: n as u8,
-        workers: workers as u8,
-        tick_ms: tick_ms as u32,
-        turns,
+        listen: options.addr("listen")?,
+        servers: options.addrs(alloc, "servers", 64)?,
+        n: options.number("n", 1, 16)? as u8,
+        workers: options.number("workers", 1, 1)? as u8,
+        tick_ms: options.number("tick-ms", 1, 1_000)? as u32,
+        turns: options.number("turns", 1, MOST_TURNS)?,
     })
 }

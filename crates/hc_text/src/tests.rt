@@ -1,6 +1,7 @@
 //! Examples: what lines and words mean, and what is printed.
 
 use crate::{Meant, Policy, TextFault, client_line, end_text, meaning, policy_of};
+use hc_replier::Bounds;
 use r2_base::{Addr, Addrs, Bytes, NoMemory};
 use r2_client::CallEnd;
 use std::alloc::{AllocError, Global};
@@ -119,6 +120,11 @@ const CLIENT: Addr = Addr {
     port: 7001,
 };
 
+const OTHER: Addr = Addr {
+    ip: 0x0a00_0001,
+    port: 9001,
+};
+
 /// What the words of the line mean, with one space between words.
 fn meant(alloc: Global, line: &str) -> Result<Result<Meant, TextFault>, NoMemory> {
     let mut words = Vec::new(alloc);
@@ -213,6 +219,10 @@ fn words_of_a_client(rt: HostRuntime) -> Result<(), Fail> {
     Ok(())
 }
 
+fn bounds(alloc: Global, items: &[u16]) -> Result<Bounds, AllocError> {
+    Ok(Bounds::from_vec(items.to_vec(alloc)?))
+}
+
 #[test]
 fn words_of_a_replay(rt: HostRuntime) -> Result<(), Fail> {
     let alloc = rt.alloc();
@@ -220,10 +230,29 @@ fn words_of_a_replay(rt: HostRuntime) -> Result<(), Fail> {
         members: addrs(alloc, &[SERVER])?,
         me: 0,
         aggregator: None,
-        bound: 64,
+        bounds: bounds(alloc, &[64])?,
         election: 1,
     };
     assert!(rt; meant(alloc, "replay --members 10.0.0.1:9000 --me 0 --election 1")? == Ok(alone));
+    let one_bound = Meant::Replay {
+        members: addrs(alloc, &[SERVER, CLIENT])?,
+        me: 1,
+        aggregator: Some(OTHER),
+        bounds: bounds(alloc, &[1_024, 1_024])?,
+        election: 1_000,
+    };
+    let line =
+        "replay --members 10.0.0.1:9000,10.0.0.9:7001 --me 1 --aggregator=10.0.0.1:9001 --bound 1024 --election 1000";
+    assert!(rt; meant(alloc, line)? == Ok(one_bound));
+    let a_bound_each = Meant::Replay {
+        members: addrs(alloc, &[SERVER, CLIENT, OTHER])?,
+        me: 2,
+        aggregator: None,
+        bounds: bounds(alloc, &[0, 1_024, 3])?,
+        election: 10,
+    };
+    let line = "replay --members 10.0.0.1:9000,10.0.0.9:7001,10.0.0.1:9001 --me 2 --bound=0,1024,3";
+    assert!(rt; meant(alloc, line)? == Ok(a_bound_each));
     Ok(())
 }
 
@@ -240,8 +269,14 @@ fn other_words(rt: HostRuntime) -> Result<(), Fail> {
         "replay --members 10.0.0.1:9000 --me 0 --bound 0",
         "replay --members 10.0.0.1:9000 --me 0 --bound 1025",
         "replay --members 10.0.0.1:9000 --me 0 --election 1001",
-        "replay --members 10.0.0.1:9000 --me 0 --aggregator 10.0.0.2:9000",
-        "replay --members 10.0.0.1:9000,10.0.0.2:9000 --me 0",
+        "replay --members 10.0.0.1:9000 --me 0 --aggregator 10.0.0.1:9000",
+        "replay --members 10.0.0.1:9000,10.0.0.2:9000 --me 2",
+        "replay --members 10.0.0.1:9000,10.0.0.2:9000 --me 0 --bound 0",
+        "replay --members 10.0.0.1:9000,10.0.0.2:9000 --me 0 --bound 0,0",
+        "replay --members 10.0.0.1:9000,10.0.0.2:9000 --me 0 --bound 1,1025",
+        "replay --members 10.0.0.1:9000,10.0.0.2:9000 --me 0 --bound 1,2,3",
+        "replay --members 10.0.0.1:9000,10.0.0.2:9000 --me 0 --bound 1,",
+        "replay --members 10.0.0.1:9000,10.0.0.2:9000 --me 0 --bound=",
         "router --listen 10.0.0.9:7001",
         "router --servers 10.0.0.1:9000",
         "router --listen 10.0.0.9:7001 --servers 10.0.0.1:9000,10.0.0.1:9000",

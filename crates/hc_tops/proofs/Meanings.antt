@@ -1,10 +1,11 @@
 -- What holds of the commands that words mean, and of their ends.
-use Rattle.std.proofs.Common.{inl, inr, ℕ, List, arith}
+use Rattle.std.proofs.Common.{inl, inr, ℕ, List, length, arith}
 use Rattle.r2_link.specs.Faults.{Faults, NoneFalls}
 use Rattle.r2_link.proofs.Faults.{then-Rose}
 use Rattle.hc_text.specs.declared.meant.Meant.{Meant}
 use Rattle.hc_text.specs.declared.meant.Meant.TheVariants.{Router, Server, Client, Replay}
 use Rattle.hc_text.specs.Words.{Means}
+use Rattle.hc_text.proofs.SameTexts.{bounds_valid}
 use Rattle.cmd_status.specs.declared.status.Status.TheVariants.{BadWords}
 use Rattle.cmd_loop.specs.Ends.{Ends}
 use Rattle.hc_tops.specs.Commands.{IsCalm, Uses, row}
@@ -24,12 +25,13 @@ means_within words (Server listen router tick_ms turns) means =
     (means.hold.ticks.holds.from_least, omega (arith, means.hold.ends.holds.to_most))
 means_within words (Client listen to policy wait tries tick_ms turns) means =
     (means.hold.targets.holds.some, means.hold.targets.holds.few, means.hold.waits.holds.from_least, means.hold.tried.holds.from_least, means.hold.ticks.holds.from_least)
-means_within words (Replay members me aggregator bound election) means = record {
-  one = means.hold.alone.single;
-  first = omega (arith, means.hold.is_member, means.hold.alone.single);
-  direct = means.hold.alone.direct;
-  bound_low = means.hold.bounded.holds.from_least;
-  bound_high = means.hold.bounded.holds.to_most;
+means_within words (Replay members me aggregator bounds election) means = record {
+  few = means.hold.group.holds.few;
+  own = means.hold.own.holds.is_member;
+  distinct = means.hold.group.holds.distinct;
+  apart = means.hold.apart;
+  bounds = (bounds_valid (length members) bounds _ means.hold.group.holds.some means.hold.group.holds.few means.hold.bounded.holds).0;
+  bound_each = (bounds_valid (length members) bounds _ means.hold.group.holds.some means.hold.group.holds.few means.hold.bounded.holds).1;
   election_low = means.hold.elects.holds.from_least;
   election_high = means.hold.elects.holds.to_most;
 }
@@ -39,11 +41,11 @@ pub runs-known : (m : Meant) (a b : Ends) → (row m).runs a b BadWords → ⊥
 runs-known (Router listen servers n workers tick_ms turns) a b ran = ran
 runs-known (Server listen router tick_ms turns) a b ran = ran.ended
 runs-known (Client listen to policy wait tries tick_ms turns) a b ran = elim ran.lines.ended [ inl between ↦ between.1 | inr within ↦ within.stops ]
-runs-known (Replay members me aggregator bound election) a b ran = ran.did.ends
+runs-known (Replay members me aggregator bounds election) a b ran = ran.did.ends
 
 -- a run without a fault has none after its link was bound
-pub calm-behind : (uses : Uses) (a b c : Faults) → NoneFalls a b → IsCalm uses a c → IsCalm uses b c
-calm-behind uses a b c steady calm = record {
+pub calm-after : (uses : Uses) (a b c : Faults) → NoneFalls a b → IsCalm uses a c → IsCalm uses b c
+calm-after uses a b c steady calm = record {
   source = λ is rose. calm.source is (then-Rose a.source b.source c.source steady.source rose);
   sink = λ is rose. calm.sink is (then-Rose a.sink b.sink c.sink steady.sink rose);
   link = λ is rose. calm.link is (then-Rose a.link b.link c.link steady.link rose);

@@ -20,7 +20,8 @@ use Rattle.cmd_router.specs.Routes.{Routes}
 use Rattle.cmd_client.specs.Calls.{Calls, IsCalled}
 use Rattle.cmd_client.specs.Script.{IsScript as IsCallScript}
 use Rattle.cmd_replay.specs.Grammar.{IsScript}
-use Rattle.cmd_replay.specs.Replay.{IsAlone, IsComplete, IsReplay}
+use Rattle.cmd_replay.specs.Replay.{IsComplete, IsReplay}
+use Rattle.hc_member.specs.Setup.{IsSetup}
 
 -- what a source, a sink, a link and a clock tell, where there is no journal
 abbrev pub ends : Option (List ℕ) → Option (List ℕ) → LinkTold → Option (List ℕ) → Ends
@@ -81,13 +82,13 @@ row (Client listen to policy wait tries tick_ms turns) = record {
       Calls (record { listen = listen; to = to; policy = policy; wait = wait; tries = tries }) (record { tick_ms = tick_ms; turns = turns }) old new status;
   ends_well = λ told status. (script : List ℕ) → told ≡ Some script → IsCallScript script → IsCalled status;
 }
-row (Replay members me aggregator bound election) = record {
+row (Replay members me aggregator bounds election) = record {
   uses = record { source = true; sink = true; link = false; clock = false };
   listens = None;
   is_plain = Unit {0};
-  is_within = IsAlone (record { members = members; me = me; aggregator = aggregator; bound = bound; election = election });
+  is_within = IsSetup (record { members = members; me = me; aggregator = aggregator; bounds = bounds; election = election });
   runs = λ old new status.
-      IsReplay (record { members = members; me = me; aggregator = aggregator; bound = bound; election = election }) old.source new.source old.written new.written status;
+      IsReplay (record { members = members; me = me; aggregator = aggregator; bounds = bounds; election = election }) old.source new.source old.written new.written status;
   ends_well = λ told status. (script : List ℕ) → told ≡ Some script → IsScript script → IsComplete status;
 }
 

@@ -18,3 +18,5 @@ pub use top::{run, run_plain};
 mod tests;
 #[cfg(test)]
 mod together_tests;
+#[cfg(test)]
+mod waiting_tests;

@@ -66,14 +66,14 @@ fn run_bound<S: Source, K: Sink, L: Link, C: Clock>(
             members,
             me,
             aggregator,
-            bound,
+            bounds,
             election,
         } => {
             let setup = Setup {
                 members,
                 me,
                 aggregator,
-                bound,
+                bounds,
                 election,
             };
             replay(alloc, setup, source, sink)

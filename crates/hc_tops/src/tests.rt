@@ -1,7 +1,8 @@
 ghost use Rattle.std.specs.Prelude.{◌≤◌, IfOk};
-ghost use Rattle.cmd_replay.specs.Replay.{IsAlone};
+ghost use Rattle.hc_member.specs.Setup.{IsSetup};
 
 use crate::{Setup, Status, replay, run, run_plain};
+use hc_replier::Bounds;
 use r2_base::{Addr, Addrs, Bytes, Datagram, Failed, NoMemory, Numbers, Room};
 use r2_link::{Item, Items, Lane, Lanes, MemClock, MemLink, MemSink, MemSource, Sink, Source};
 use std::alloc::Global;
@@ -132,18 +133,20 @@ fn words(alloc: Global, line: &[&str]) -> Result<Vec<String>, NoMemory> {
 fn alone(alloc: Global, bound: u16) -> Result<Setup, NoMemory>
     requires low { 1 ≤ bound }
     requires high { bound ≤ 1024 }
-    ensures { IfOk result IsAlone }
+    ensures { IfOk result IsSetup }
 {
     let mut members = Vec::new(alloc);
     members.push(Addr {
         ip: 0x0a00_0001,
         port: 9_000,
     })?;
+    let mut bounds = Vec::new(alloc);
+    bounds.push(bound)?;
     Ok(Setup {
         members: Addrs::from_vec(members),
         me: 0,
         aggregator: None,
-        bound,
+        bounds: Bounds::from_vec(bounds),
         election: 1,
     })
 }

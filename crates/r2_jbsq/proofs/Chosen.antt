@@ -32,8 +32,8 @@ record Shortest (rows : List (List RoutedRequest)) : Type 0 where
   least : All (λ (other : List RoutedRequest). length (get_or rows at []) ≤ length other) rows
 
 All-cons : (P : List RoutedRequest → Type 0) (row : List RoutedRequest) (rows : List (List RoutedRequest)) → P row → All P rows → All P (row ∷ rows)
-All-cons P row rows here behind zero d h = here
-All-cons P row rows here behind (suc k) d h = behind k d (omega arith)
+All-cons P row rows here after zero d h = here
+All-cons P row rows here after (suc k) d h = after k d (omega arith)
 
 by-test : (a b : ℕ) (t : Bool) → nat_lt b a ≡ t → (a ≤ b) ⊎ (b < a)
 by-test a b true e = inr (ltb-true b a e)

@@ -39,9 +39,9 @@ closing r rid server k w =
     ∙ by-first r rid server (first_of r.standing.queue)
 
 -- there is room at that server
-pub room-behind : (r : RouterState) (rid : Rid) (server : ℕ) → IsSound r → IsOpenAt rid server r.standing → r.setup.n ≤ greatest_n
+pub room-after : (r : RouterState) (rid : Rid) (server : ℕ) → IsSound r → IsOpenAt rid server r.standing → r.setup.n ≤ greatest_n
     → length (row_at (closed rid server r.standing) server) < greatest_n
-room-behind r rid server k w small =
+room-after r rid server k w small =
     let is : row_at (closed rid server r.standing) server ≡ without rid (row_at r.standing server) =
     get_or-set_same r.standing.rows server (without rid (row_at r.standing server)) [] w.is_server in
     omega (arith, ap length is, fewer-without rid (row_at r.standing server) w.is_open, k.within server [] w.is_server, small)

@@ -36,9 +36,9 @@ without-requests rid history (other ∷ names) =
     ∙ both-ways (not (same_rid rid other)) history other (names_without rid names)
 
 -- the packets stay
-requests-same : (before behind : List Mark) (names : List Rid) → ((q : Rid) → accepted_packet behind q ≡ accepted_packet before q) → requests_in behind names ≡ requests_in before names
-requests-same before behind [] same = refl
-requests-same before behind (rid ∷ names) same = rw (same rid, requests-same before behind names same) refl
+requests-same : (before after : List Mark) (names : List Rid) → ((q : Rid) → accepted_packet after q ≡ accepted_packet before q) → requests_in after names ≡ requests_in before names
+requests-same before after [] same = refl
+requests-same before after (rid ∷ names) same = rw (same rid, requests-same before after names same) refl
 
 pub or-false-left : (a b : Bool) → (a || b) ≡ false → a ≡ false
 or-false-left true b e = e
@@ -136,16 +136,16 @@ new-packet history rid packet = accepted_packet-accept history rid packet rid �
 pub accept-mark : (servers : ℕ) (history : List Mark) (request : RoutedRequest) → is_known request.rid (standing_in servers history) ≡ false
     → standing_in servers (history ++ Accept request.rid request.packet ∷ []) ≡ queued request (standing_in servers history)
 accept-mark servers history request new =
-    let behind : List Mark = history ++ Accept request.rid request.packet ∷ [] in
+    let after : List Mark = history ++ Accept request.rid request.packet ∷ [] in
     let absent = absent-in-queue servers history request.rid new in
-    standing-is servers behind (standing_in servers history).rows ((standing_in servers history).queue ++ request ∷ [])
+    standing-is servers after (standing_in servers history).rows ((standing_in servers history).queue ++ request ∷ [])
     (length-rows servers history)
     (λ k h.
     row-in servers history k h
     ∙ (sym (requests-accept history request.rid request.packet (open_at k history) (absent-in-row servers history request.rid k new h))
-    ∙ ap (requests_in behind) (sym (open_at-accept k history request.rid request.packet))))
-    (sym (ap (requests_in behind) (waiting-accept history request.rid request.packet ∙ ap (λ names. names ++ request.rid ∷ []) (names_without-absent request.rid (waiting history) absent))
-    ∙ (map-append (request_in behind) (waiting history) (request.rid ∷ [])
+    ∙ ap (requests_in after) (sym (open_at-accept k history request.rid request.packet))))
+    (sym (ap (requests_in after) (waiting-accept history request.rid request.packet ∙ ap (λ names. names ++ request.rid ∷ []) (names_without-absent request.rid (waiting history) absent))
+    ∙ (map-append (request_in after) (waiting history) (request.rid ∷ [])
     ∙ rw (requests-accept history request.rid request.packet (waiting history) absent, new-packet history request.rid request.packet, queue-in servers history) refl)))
 
 -- a request went to a server
@@ -158,17 +158,17 @@ pub forward-mark : (servers : ℕ) (history : List Mark) (rid : Rid) (to : ℕ) 
     → standing_in servers (history ++ Forward rid to ∷ [])
     ≡ put (request_in history rid) to (record { rows = (standing_in servers history).rows; queue = without rid (standing_in servers history).queue })
 forward-mark servers history rid to inside =
-    let behind : List Mark = history ++ Forward rid to ∷ [] in
+    let after : List Mark = history ++ Forward rid to ∷ [] in
     let row : List RoutedRequest = row_at (standing_in servers history) to ++ request_in history rid ∷ [] in
-    standing-is servers behind (set (standing_in servers history).rows to row) (without rid (standing_in servers history).queue)
+    standing-is servers after (set (standing_in servers history).rows to row) (without rid (standing_in servers history).queue)
     (length-set (standing_in servers history).rows to row ∙ length-rows servers history)
     (λ k h.
     row-changed servers history to k inside h (λ r. r ++ request_in history rid ∷ [])
-    ∙ sym (requests-same history behind (open_at k behind) (accepted_packet-forward history rid to)
+    ∙ sym (requests-same history after (open_at k after) (accepted_packet-forward history rid to)
     ∙ (ap (requests_in history) (open_at-forward k history rid to) ∙ end-by (k == to) history rid (open_at k history))))
     (ap (without rid) (queue-in servers history)
     ∙ (without-requests rid history (waiting history)
-    ∙ sym (requests-same history behind (waiting behind) (accepted_packet-forward history rid to) ∙ ap (requests_in history) (waiting-forward history rid to))))
+    ∙ sym (requests-same history after (waiting after) (accepted_packet-forward history rid to) ∙ ap (requests_in history) (waiting-forward history rid to))))
 
 -- a server was done with a request
 less-by : (b : Bool) (history : List Mark) (rid : Rid) (names : List Rid)
@@ -179,13 +179,13 @@ less-by false history rid names = refl
 pub answer-mark : (servers : ℕ) (history : List Mark) (rid : Rid) (from : ℕ) → from < servers
     → standing_in servers (history ++ Answer rid from ∷ []) ≡ closed rid from (standing_in servers history)
 answer-mark servers history rid from inside =
-    let behind : List Mark = history ++ Answer rid from ∷ [] in
+    let after : List Mark = history ++ Answer rid from ∷ [] in
     let row : List RoutedRequest = without rid (row_at (standing_in servers history) from) in
-    standing-is servers behind (set (standing_in servers history).rows from row) (standing_in servers history).queue
+    standing-is servers after (set (standing_in servers history).rows from row) (standing_in servers history).queue
     (length-set (standing_in servers history).rows from row ∙ length-rows servers history)
     (λ k h.
     row-changed servers history from k inside h (without rid)
-    ∙ sym (requests-same history behind (open_at k behind) (accepted_packet-answer history rid from)
+    ∙ sym (requests-same history after (open_at k after) (accepted_packet-answer history rid from)
     ∙ (ap (requests_in history) (open_at-answer k history rid from) ∙ less-by (k == from) history rid (open_at k history))))
     (queue-in servers history
-    ∙ sym (requests-same history behind (waiting behind) (accepted_packet-answer history rid from) ∙ ap (requests_in history) (waiting-answer history rid from)))
+    ∙ sym (requests-same history after (waiting after) (accepted_packet-answer history rid from) ∙ ap (requests_in history) (waiting-answer history rid from)))

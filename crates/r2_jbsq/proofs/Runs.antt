@@ -8,7 +8,7 @@ use Rattle.r2_base.specs.declared.event.Event.{Event}
 use Rattle.r2_base.specs.declared.rid.Rid.{Rid}
 use Rattle.r2_jbsq.specs.declared.routed_request.RoutedRequest.{RoutedRequest}
 use Rattle.r2_jbsq.specs.declared.router_setup.RouterSetup.{RouterSetup}
-use Rattle.r2_jbsq.specs.Answer.{history_behind, marks, standing_of}
+use Rattle.r2_jbsq.specs.Answer.{history_after, marks, standing_of}
 use Rattle.r2_jbsq.specs.History.{Answer, Mark, open_at, accepted_packet, waiting}
 use Rattle.r2_jbsq.specs.Laws.{AddsUp, AnsweredRequestsAreNew, CountsAddUp, HoldsAtMost, RequestsWaitOnlyWhileAllAreFull, ServersHoldAtMostN, WaitsOnlyWhileFull, open_among}
 use Rattle.r2_base.specs.Names.{same_rid}
@@ -49,12 +49,12 @@ one-more setup history event k =
       sound = turned-sound k.router event k.sound;
     }
 
-all-more : (setup : RouterSetup) (history : List Mark) (events : List Event) → Reached setup history → Reached setup (history_behind setup history events)
-unfolding history_behind
+all-more : (setup : RouterSetup) (history : List Mark) (events : List Event) → Reached setup history → Reached setup (history_after setup history events)
+unfolding history_after
 all-more setup history [] k = k
 all-more setup history (event ∷ more) k = all-more setup (history ++ marks setup history event) more (one-more setup history event k)
 
-reached : (setup : RouterSetup) (events : List Event) → Reached setup (history_behind setup [] events)
+reached : (setup : RouterSetup) (events : List Event) → Reached setup (history_after setup [] events)
 reached setup events =
     all-more setup [] events (record { router = begin setup; same = refl; stands = begin-stands setup; sound = begin-sound setup })
 
@@ -122,14 +122,14 @@ module _ (setup : RouterSetup) (history : List Mark) (k : Reached setup history)
       ∙ (known-closed rid rid server k.router.standing k.sound.once (has-row server inside) here ∙ rw (same_rid-same rid) refl))
 
 pub hold-most : ServersHoldAtMostN
-hold-most setup events = holds setup (history_behind setup [] events) (reached setup events)
+hold-most setup events = holds setup (history_after setup [] events) (reached setup events)
 
 pub wait-full : RequestsWaitOnlyWhileAllAreFull
-wait-full setup events = waits setup (history_behind setup [] events) (reached setup events)
+wait-full setup events = waits setup (history_after setup [] events) (reached setup events)
 
 pub add-up : CountsAddUp
-add-up setup events = adds setup (history_behind setup [] events) (reached setup events)
+add-up setup events = adds setup (history_after setup [] events) (reached setup events)
 
 pub answered-new : AnsweredRequestsAreNew
 answered-new setup events rid server inside is_open =
-    answered setup (history_behind setup [] events) (reached setup events) rid server inside is_open
+    answered setup (history_after setup [] events) (reached setup events) rid server inside is_open

@@ -26,14 +26,14 @@ use Rattle.r2_jbsq.proofs.Freed.{length-without, next_closed}
 use Rattle.r2_base.proofs.SameNames.{same_rid-true}
 
 -- what a step makes of the rows and the queue, and of the numbers of open and waiting requests
-record Keeps (n servers : ℕ) (before behind : Standing) (accepts forwards answers : ℕ) : Type 0 where
-  rows : length behind.rows ≡ servers
-  within : All (λ (row : List RoutedRequest). length row ≤ n) behind.rows
-  full : IsFullWhileWaiting n behind
-  room : length behind.queue ≤ most_waiting
-  once : (rid : Rid) → copies rid behind ≤ 1
-  all : length behind.queue + held_in behind + answers ≡ length before.queue + held_in before + accepts
-  sent : held_in behind + answers ≡ held_in before + forwards
+record Keeps (n servers : ℕ) (before after : Standing) (accepts forwards answers : ℕ) : Type 0 where
+  rows : length after.rows ≡ servers
+  within : All (λ (row : List RoutedRequest). length row ≤ n) after.rows
+  full : IsFullWhileWaiting n after
+  room : length after.queue ≤ most_waiting
+  once : (rid : Rid) → copies rid after ≤ 1
+  all : length after.queue + held_in after + answers ≡ length before.queue + held_in before + accepts
+  sent : held_in after + answers ≡ held_in before + forwards
 
 -- what a step needs of them
 record Stands (n servers : ℕ) (s : Standing) : Type 0 where
@@ -156,11 +156,11 @@ freed-keeps n servers rows [] rid server k w = close-keeps n servers rows rid se
 freed-keeps n servers rows (request ∷ more) rid server k w = move-keeps n servers rows request more rid server k w
 
 -- what there is after a step that keeps all that
-behind-sound : (r : RouterState) (behind : Standing) (accepted forwarded answered a f b : ℕ) → IsSound r → a ≤ 1
+after-sound : (r : RouterState) (after : Standing) (accepted forwarded answered a f b : ℕ) → IsSound r → a ≤ 1
     → accepted ≡ r.accepted + a → forwarded ≡ r.forwarded + f → answered ≡ r.answered + b
-    → Keeps r.setup.n (length r.setup.servers) r.standing behind a f b
-    → IsSound (record { setup = r.setup; standing = behind; accepted = accepted; forwarded = forwarded; answered = answered; turns = r.turns + 1 })
-behind-sound r behind accepted forwarded answered a f b k most is is' is'' w =
+    → Keeps r.setup.n (length r.setup.servers) r.standing after a f b
+    → IsSound (record { setup = r.setup; standing = after; accepted = accepted; forwarded = forwarded; answered = answered; turns = r.turns + 1 })
+after-sound r after accepted forwarded answered a f b k most is is' is'' w =
     record {
       rows = w.rows;
       within = w.within;
@@ -173,7 +173,7 @@ behind-sound r behind accepted forwarded answered a f b k most is is' is'' w =
     }
 
 same-sound : (r : RouterState) → IsSound r → Keeps r.setup.n (length r.setup.servers) r.standing r.standing 0 0 0 → IsSound (counted r)
-same-sound r k w = behind-sound r r.standing r.accepted r.forwarded r.answered 0 0 0 k (omega arith) (omega arith) (omega arith) (omega arith) w
+same-sound r k w = after-sound r r.standing r.accepted r.forwarded r.answered 0 0 0 k (omega arith) (omega arith) (omega arith) (omega arith) w
 
 stands : (r : RouterState) → IsSound r → Stands r.setup.n (length r.setup.servers) r.standing
 stands r k = record { rows = k.rows; within = k.within; full = k.full; room = k.most_waiting; once = k.once }
@@ -187,9 +187,9 @@ close-sound : (r : RouterState) (rid : Rid) (server : ℕ) (o : Option (RoutedRe
     → IsSound (counted (passed_on (freed r rid server) o))
 unfolding freed
 close-sound r rid server None k w =
-    behind-sound r (closed rid server r.standing) r.accepted r.forwarded (r.answered + 1) 0 0 1 k (omega arith) (omega arith) (omega arith) refl w
+    after-sound r (closed rid server r.standing) r.accepted r.forwarded (r.answered + 1) 0 0 1 k (omega arith) (omega arith) (omega arith) refl w
 close-sound r rid server (Some (request, to)) k w =
-    behind-sound r (moved_on (closed rid server r.standing) (Some (request, to))) r.accepted (r.forwarded + 1) (r.answered + 1) 0 1 1 k (omega arith) (omega arith) refl refl w
+    after-sound r (moved_on (closed rid server r.standing) (Some (request, to))) r.accepted (r.forwarded + 1) (r.answered + 1) 0 1 1 k (omega arith) (omega arith) refl refl w
 
 -- the steps one by one
 pub step-sound : (r : RouterState) (s : Decision) → IsSound r → Fits r.setup.n r.standing s → IsSound (counted (carried_out r s))
@@ -198,10 +198,10 @@ step-sound r decision.Nothing k w = same-sound r k (nothing-keeps r.setup.n (len
 step-sound r (decision.Reject rid) k w = same-sound r k (nothing-keeps r.setup.n (length r.setup.servers) r.standing (stands r k))
 step-sound r decision.Repeat k w = same-sound r k (nothing-keeps r.setup.n (length r.setup.servers) r.standing (stands r k))
 step-sound r (decision.Queue request) k w =
-    behind-sound r (queued request r.standing) (r.accepted + 1) r.forwarded r.answered 1 0 0 k (omega arith) refl (omega arith) (omega arith)
+    after-sound r (queued request r.standing) (r.accepted + 1) r.forwarded r.answered 1 0 0 k (omega arith) refl (omega arith) (omega arith)
     (queue-keeps r.setup.n (length r.setup.servers) r.standing (stands r k) request w)
 step-sound r (decision.Forward request server) k w =
-    behind-sound r (put request server r.standing) (r.accepted + 1) (r.forwarded + 1) r.answered 1 1 0 k (omega arith) refl refl (omega arith)
+    after-sound r (put request server r.standing) (r.accepted + 1) (r.forwarded + 1) r.answered 1 1 0 k (omega arith) refl refl (omega arith)
     (forward-keeps r.setup.n (length r.setup.servers) r.standing (stands r k) request server w)
 step-sound r (decision.Close rid server) k w =
     subst (λ (o : Option (RoutedRequest × ℕ)). IsSound (counted (passed_on (freed r rid server) o))) (sym (next_closed r.setup.n rid server r.standing k.full w))

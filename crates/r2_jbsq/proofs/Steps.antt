@@ -105,10 +105,10 @@ done : (n servers : ℕ) (history : List Mark) (rid : Rid) (from : ℕ) → from
     → standing_in servers (history ++ Answer rid from ∷ next_marks (next n (closed rid from (standing_in servers history))))
     ≡ moved_on (closed rid from (standing_in servers history)) (next n (closed rid from (standing_in servers history)))
 done n servers history rid from inside =
-    let behind : List Mark = history ++ Answer rid from ∷ [] in
-    let is : standing_in servers behind ≡ closed rid from (standing_in servers history) = answer-mark servers history rid from inside in
+    let after : List Mark = history ++ Answer rid from ∷ [] in
+    let is : standing_in servers after ≡ closed rid from (standing_in servers history) = answer-mark servers history rid from inside in
     ap (standing_in servers) (sym (append_assoc history (Answer rid from ∷ []) (next_marks (next n (closed rid from (standing_in servers history))))))
-    ∙ subst (λ (s : Standing). standing_in servers (behind ++ next_marks (next n s)) ≡ moved_on s (next n s)) is (next-stands n servers behind)
+    ∙ subst (λ (s : Standing). standing_in servers (after ++ next_marks (next n s)) ≡ moved_on s (next n s)) is (next-stands n servers after)
 
 -- what is open and waits after a step
 pub step-stands : (n servers : ℕ) (history : List Mark) (s : Decision) → Fits n (standing_in servers history) s

@@ -142,6 +142,6 @@ answer setup history event =
     let s = standing_of setup history in sends_of setup s (decision_at setup s event)
 
 -- the history after these events, one after another
-unfoldable pub history_behind : RouterSetup → List Mark → List Event → List Mark
-history_behind setup history [] = history
-history_behind setup history (event ∷ more) = history_behind setup (history ++ marks setup history event) more
+unfoldable pub history_after : RouterSetup → List Mark → List Event → List Mark
+history_after setup history [] = history
+history_after setup history (event ∷ more) = history_after setup (history ++ marks setup history event) more

@@ -32,25 +32,25 @@ is_answer_of rid server (Answer other from) = same_rid rid other && (server == f
 -- the requests open at a server: those that went to it, with no answer from it afterwards, in order
 unfoldable pub open_at : ℕ → List Mark → List Rid
 open_at server [] = []
-open_at server (Accept rid packet ∷ behind) = open_at server behind
-open_at server (Forward rid to ∷ behind) =
-    if (server == to) && not (list_any (is_answer_of rid server) behind) then rid ∷ open_at server behind else open_at server behind
-open_at server (Answer rid from ∷ behind) = open_at server behind
+open_at server (Accept rid packet ∷ after) = open_at server after
+open_at server (Forward rid to ∷ after) =
+    if (server == to) && not (list_any (is_answer_of rid server) after) then rid ∷ open_at server after else open_at server after
+open_at server (Answer rid from ∷ after) = open_at server after
 
 -- the requests that wait: those that were accepted, and not forwarded since they were accepted last, in order
 unfoldable pub waiting : List Mark → List Rid
 waiting [] = []
-waiting (Accept rid packet ∷ behind) = if list_any (is_move_of rid) behind then waiting behind else rid ∷ waiting behind
-waiting (Forward rid to ∷ behind) = waiting behind
-waiting (Answer rid from ∷ behind) = waiting behind
+waiting (Accept rid packet ∷ after) = if list_any (is_move_of rid) after then waiting after else rid ∷ waiting after
+waiting (Forward rid to ∷ after) = waiting after
+waiting (Answer rid from ∷ after) = waiting after
 
 -- the packet with which a request was accepted last
 unfoldable pub accepted_packet : List Mark → Rid → List ℕ
 accepted_packet [] rid = []
-accepted_packet (Accept other packet ∷ behind) rid =
-    if same_rid rid other && not (list_any (is_accept_of rid) behind) then packet else accepted_packet behind rid
-accepted_packet (Forward other to ∷ behind) rid = accepted_packet behind rid
-accepted_packet (Answer other from ∷ behind) rid = accepted_packet behind rid
+accepted_packet (Accept other packet ∷ after) rid =
+    if same_rid rid other && not (list_any (is_accept_of rid) after) then packet else accepted_packet after rid
+accepted_packet (Forward other to ∷ after) rid = accepted_packet after rid
+accepted_packet (Answer other from ∷ after) rid = accepted_packet after rid
 
 -- the kinds of marks
 abbrev pub is_accept : Mark → Bool

@@ -6,7 +6,7 @@ use Rattle.r2_base.specs.declared.event.Event.{Event}
 use Rattle.r2_base.specs.declared.event.Event.TheVariants.{Datagram as DatagramEvent, Quiet}
 use Rattle.r2_jbsq.specs.declared.router_setup.RouterSetup.{RouterSetup}
 use Rattle.r2_base.specs.declared.rid.Rid.{Rid}
-use Rattle.r2_jbsq.specs.Answer.{history_behind, standing_of}
+use Rattle.r2_jbsq.specs.Answer.{history_after, standing_of}
 use Rattle.r2_jbsq.specs.History.{Answer, Mark, is_accept, is_answer, is_forward, open_at, waiting}
 use Rattle.r2_base.specs.Names.{same_rid}
 use Rattle.r2_header.specs.Reading.{header_at}
@@ -36,21 +36,21 @@ pub record AddsUp (servers : ℕ) (history : List Mark) : Type 0 where
 -- so it is after any events
 abbrev pub ServersHoldAtMostN : Type 0
 ServersHoldAtMostN =
-    (setup : RouterSetup) (events : List Event) → HoldsAtMost setup.n (length setup.servers) (history_behind setup [] events)
+    (setup : RouterSetup) (events : List Event) → HoldsAtMost setup.n (length setup.servers) (history_after setup [] events)
 
 abbrev pub RequestsWaitOnlyWhileAllAreFull : Type 0
 RequestsWaitOnlyWhileAllAreFull =
-    (setup : RouterSetup) (events : List Event) → WaitsOnlyWhileFull setup.n (length setup.servers) (history_behind setup [] events)
+    (setup : RouterSetup) (events : List Event) → WaitsOnlyWhileFull setup.n (length setup.servers) (history_after setup [] events)
 
 abbrev pub CountsAddUp : Type 0
-CountsAddUp = (setup : RouterSetup) (events : List Event) → AddsUp (length setup.servers) (history_behind setup [] events)
+CountsAddUp = (setup : RouterSetup) (events : List Event) → AddsUp (length setup.servers) (history_after setup [] events)
 
 -- a request that was open at a server is neither open nor waits, once that server has answered it: its name is a new one again
 abbrev pub AnsweredRequestsAreNew : Type 0
 AnsweredRequestsAreNew =
     (setup : RouterSetup) (events : List Event) (rid : Rid) (server : ℕ) → server < length setup.servers
-    → list_any (same_rid rid) (open_at server (history_behind setup [] events)) ≡ true
-    → is_known rid (standing_of setup (history_behind setup [] events ++ Answer rid server ∷ [])) ≡ false
+    → list_any (same_rid rid) (open_at server (history_after setup [] events)) ≡ true
+    → is_known rid (standing_of setup (history_after setup [] events ++ Answer rid server ∷ [])) ≡ false
 
 -- what a router ignores, whatever it is
 pub record IgnoresOthers (r : RouterState) : Type 0 where

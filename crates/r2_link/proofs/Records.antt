@@ -1,4 +1,4 @@
--- What records say was sent, where a datagram or a twin's record is put behind.
+-- What records say was sent, where a datagram or a twin's record is appended.
 use Rattle.std.proofs.Common.{◌≡◌, ℕ, ◌+◌, ◌-◌, ◌≤◌, List, [], ◌∷◌, ◌++◌, length, map, take, drop, refl, sym, ap, ◌∙◌, append_assoc, length-append, length-drop, arith, subst}
 use Rattle.std.specs.Prelude.{All}
 use Rattle.std.proofs.lemmas.List.{take_all, take-append-le, drop-append-le, take-map, drop-map, map-append, length-map}
@@ -10,14 +10,14 @@ use Rattle.r2_link.specs.declared.sent.Joined.{Joined}
 use Rattle.r2_link.specs.declared.sent.Joined.TheVariants.{Nobody, Twin'}
 use Rattle.r2_link.specs.Sent.{datagram_at, sent_upto, CameWithin}
 
--- a piece that lies within the front is a piece of the front
-piece-front : (start len : ℕ) (xs ys : List ℕ) → start + len ≤ length xs → take len (drop start (xs ++ ys)) ≡ take len (drop start xs)
-piece-front start len xs ys inside =
+-- a piece that lies within a prefix is a piece of that prefix
+piece-prefix : (start len : ℕ) (xs ys : List ℕ) → start + len ≤ length xs → take len (drop start (xs ++ ys)) ≡ take len (drop start xs)
+piece-prefix start len xs ys inside =
     ap (take len) (drop-append-le start xs ys (omega arith)) ∙ take-append-le len (drop start xs) ys (omega (arith, length-drop start xs))
 
 -- a run of what was there before
-run-front : {A : Type 0} (at n : ℕ) (xs ys : List A) → at ≤ n → n ≤ length xs → take (n - at) (drop at (xs ++ ys)) ≡ take (n - at) (drop at xs)
-run-front at n xs ys below within =
+run-prefix : {A : Type 0} (at n : ℕ) (xs ys : List A) → at ≤ n → n ≤ length xs → take (n - at) (drop at (xs ++ ys)) ≡ take (n - at) (drop at xs)
+run-prefix at n xs ys below within =
     ap (take (n - at)) (drop-append-le at xs ys (omega arith)) ∙ take-append-le (n - at) (drop at xs) ys (omega (arith, length-drop at xs))
 
 -- the run up to the end, and one more
@@ -28,34 +28,34 @@ run-more at xs x within =
     ∙ ap (λ l. l ++ x ∷ []) (sym (take_all (length xs - at) (drop at xs) (omega (arith, length-drop at xs))))
 
 -- later datagrams change nothing of the first n
-sent_upto-front : (n : ℕ) (own more : List Datagram) (joined : Joined) → n ≤ length own → CameWithin n joined → sent_upto n (own ++ more) joined ≡ sent_upto n own joined
-sent_upto-front n own more Nobody within came = take-append-le n own more within
-sent_upto-front n own more (Twin' p heads bytes joined at before) within came =
-    let earlier = sent_upto-front at own more before (omega (arith, came.0)) came.1 in
-    let run = run-front at n own more came.0 within in
+sent_upto-prefix : (n : ℕ) (own more : List Datagram) (joined : Joined) → n ≤ length own → CameWithin n joined → sent_upto n (own ++ more) joined ≡ sent_upto n own joined
+sent_upto-prefix n own more Nobody within came = take-append-le n own more within
+sent_upto-prefix n own more (Twin' p heads bytes joined at before) within came =
+    let earlier = sent_upto-prefix at own more before (omega (arith, came.0)) came.1 in
+    let run = run-prefix at n own more came.0 within in
     ap (λ l. l ++ sent_upto (length heads.items) (map (datagram_at bytes.items) heads.items) joined ++ take (n - at) (drop at (own ++ more))) earlier
     ∙ ap (λ l. sent_upto at own before ++ sent_upto (length heads.items) (map (datagram_at bytes.items) heads.items) joined ++ l) run
 
--- one more datagram stands behind all others
+-- one more datagram comes after all others
 sent_upto-more : (own : List Datagram) (d : Datagram) (joined : Joined) → CameWithin (length own) joined
     → sent_upto (length own + 1) (own ++ d ∷ []) joined ≡ sent_upto (length own) own joined ++ d ∷ []
 sent_upto-more own d Nobody came =
     take_all (length own + 1) (own ++ d ∷ []) (omega (arith, length-append own (d ∷ [])))
     ∙ ap (λ l. l ++ d ∷ []) (sym (take_all (length own) own (omega arith)))
 sent_upto-more own d (Twin' p heads bytes joined at before) came =
-    let earlier = sent_upto-front at own (d ∷ []) before came.0 came.1 in
+    let earlier = sent_upto-prefix at own (d ∷ []) before came.0 came.1 in
     let run = run-more at own d came.0 in
     ap (λ l. l ++ sent_upto (length heads.items) (map (datagram_at bytes.items) heads.items) joined ++ take (length own + 1 - at) (drop at (own ++ d ∷ []))) earlier
     ∙ ap (λ l. sent_upto at own before ++ sent_upto (length heads.items) (map (datagram_at bytes.items) heads.items) joined ++ l) run
     ∙ sym (append_assoc (sent_upto at own before ++ sent_upto (length heads.items) (map (datagram_at bytes.items) heads.items) joined) (take (length own - at) (drop at own)) (d ∷ []))
 
--- more bytes behind change no datagram
-datagrams-front : (heads : List Head) (bytes more : List ℕ) → All (λ h. h.start + h.len ≤ length bytes) heads
+-- more bytes after them change no datagram
+datagrams-prefix : (heads : List Head) (bytes more : List ℕ) → All (λ h. h.start + h.len ≤ length bytes) heads
     → map (datagram_at (bytes ++ more)) heads ≡ map (datagram_at bytes) heads
-datagrams-front [] bytes more inside = refl
-datagrams-front (h ∷ heads) bytes more inside =
-    let rest = datagrams-front heads bytes more (All-tail (λ g. g.start + g.len ≤ length bytes) h heads inside) in
-    let piece = piece-front h.start h.len bytes more (All-head (λ g. g.start + g.len ≤ length bytes) h heads inside) in
+datagrams-prefix [] bytes more inside = refl
+datagrams-prefix (h ∷ heads) bytes more inside =
+    let rest = datagrams-prefix heads bytes more (All-tail (λ g. g.start + g.len ≤ length bytes) h heads inside) in
+    let piece = piece-prefix h.start h.len bytes more (All-head (λ g. g.start + g.len ≤ length bytes) h heads inside) in
     ap (λ l. record { from = h.from; to = h.to; bytes = l } ∷ map (datagram_at (bytes ++ more)) heads) piece
     ∙ ap (λ l. datagram_at bytes h ∷ l) rest
 
@@ -68,10 +68,10 @@ datagrams-more : (heads : List Head) (bytes : List ℕ) (d : Datagram) (h : Head
     → map (datagram_at (bytes ++ d.bytes)) (heads ++ h ∷ []) ≡ map (datagram_at bytes) heads ++ d ∷ []
 datagrams-more heads bytes d h is inside =
     map-append (datagram_at (bytes ++ d.bytes)) heads (h ∷ [])
-    ∙ ap (λ l. l ++ datagram_at (bytes ++ d.bytes) h ∷ []) (datagrams-front heads bytes d.bytes inside)
+    ∙ ap (λ l. l ++ datagram_at (bytes ++ d.bytes) h ∷ []) (datagrams-prefix heads bytes d.bytes inside)
     ∙ ap (λ x. map (datagram_at bytes) heads ++ x ∷ []) (ap (datagram_at (bytes ++ d.bytes)) is ∙ last-datagram bytes d)
 
--- a datagram that was put behind was sent last
+-- a datagram that was appended was sent last
 pub sent_upto-push : (heads heads' : List Head) (bytes bytes' : List ℕ) (joined : Joined) (d : Datagram) (h : Head)
     → h ≡ record { from = d.from; to = d.to; start = length bytes; len = length d.bytes } → heads' ≡ heads ++ h ∷ [] → bytes' ≡ bytes ++ d.bytes
     → All (λ g. g.start + g.len ≤ length bytes) heads → CameWithin (length heads) joined
@@ -103,7 +103,7 @@ pub run-map : (bytes : List ℕ) (heads : List Head) (at n : ℕ) → map (datag
 run-map bytes heads at n =
     sym (ap (take n) (drop-map (datagram_at bytes) at heads) ∙ take-map (datagram_at bytes) n (drop at heads))
 
--- copies of a run, behind what was copied before
+-- copies of a run, after what was copied before
 pub copied-run : (out new : List Datagram) (bytes : List ℕ) (heads run : List Head) (n : ℕ) (joined : Joined) → joined ≡ Nobody → run ≡ take n (drop 0 heads)
     → new ≡ out ++ map (datagram_at bytes) run → new ≡ out ++ sent_upto n (map (datagram_at bytes) heads) joined
 copied-run out new bytes heads run n joined nobody is copied =

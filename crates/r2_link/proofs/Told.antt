@@ -1,7 +1,7 @@
 -- What several calls did to what an object tells, one after the other.
-use Rattle.std.proofs.Common.{◌≡◌, ℕ, List, [], ◌∷◌, ◌++◌, Option, Some, None, refl, sym, ap, ◌∙◌, subst, append_assoc, append-nil}
+use Rattle.std.proofs.Common.{ℕ, List, [], ◌∷◌, ◌++◌, Option, Some, None, refl, sym, ap, ◌∙◌, subst, append_assoc, append-nil}
 use Rattle.r2_link.specs.Told.{IsKept, Gains, HasNone, Joins, RanDry, Takes}
-use Rattle.r2_link.specs.Moments.{Tells, moment_of, moments_behind}
+use Rattle.r2_link.specs.Moments.{Tells, moments_after}
 
 pub IsKept-refl : {A : Type 0} (a : Option A) → IsKept a a
 IsKept-refl None = tt
@@ -42,7 +42,7 @@ Tells-then None b c xs ys p q = tt
 Tells-then (Some x) None c xs ys p q = absurd p
 Tells-then (Some x) (Some y) None xs ys p q = absurd q
 Tells-then (Some x) (Some y) (Some z) [] ys p q = subst (λ (l : List ℕ). Tells (Some l) (Some z) ys) p q
-Tells-then (Some x) (Some y) (Some z) (m ∷ ms) ys p q = (p.0, Tells-then (Some (moments_behind x)) (Some y) (Some z) ms ys p.1 q)
+Tells-then (Some x) (Some y) (Some z) (m ∷ ms) ys p q = (p.0, Tells-then (Some (moments_after x)) (Some y) (Some z) ms ys p.1 q)
 
 -- it was dry from the beginning on, and stays so
 pub RanDry-from : {A : Type 0} (a b c : Option (List A)) (xs : List A) → Takes a b xs → RanDry b c → RanDry a c

@@ -61,6 +61,6 @@ told_by l = record { left = Some l.left; sent = Some l.sent; lanes = Some (map i
 abbrev pub IsTooSmall : Room → ℕ → Type 0
 IsTooSmall room size = (room.calls < 1) ⊎ (room.bytes < size)
 
--- the room that is left behind a call that took these bytes
-abbrev pub room_behind : Room → ℕ → Room
-room_behind room size = record { bytes = room.bytes - size; calls = room.calls - 1 }
+-- the room that is left after a call that took these bytes
+abbrev pub room_after : Room → ℕ → Room
+room_after room size = record { bytes = room.bytes - size; calls = room.calls - 1 }

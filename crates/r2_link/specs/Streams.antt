@@ -2,9 +2,9 @@
 use Rattle.std.specs.Prelude.{◌≡◌, ℕ, List, ◌++◌, Option}
 use Rattle.std.specs.Io.KnownBytes.{Appends}
 
--- some front of the piece was appended
-pub record AppendsFront (old new : Option (List ℕ)) (piece : List ℕ) : Type 0 where
-  pub front : List ℕ
+-- some prefix of the piece was appended
+pub record AppendsPrefix (old new : Option (List ℕ)) (piece : List ℕ) : Type 0 where
+  pub prefix : List ℕ
   pub rest : List ℕ
-  pub split : piece ≡ front ++ rest
-  pub gave : Appends old new front
+  pub split : piece ≡ prefix ++ rest
+  pub gave : Appends old new prefix

@@ -1,4 +1,4 @@
--- What an object of the outside tells, before and behind a call. Of what it does not tell nothing is said.
+-- What an object of the outside tells, before and after a call. Of what it does not tell nothing is said.
 use Rattle.std.specs.Prelude.{◌≡◌, List, [], ◌∷◌, ◌++◌, drop, ⊤, Option, Some, None}
 
 -- what was told is told as before
@@ -7,7 +7,7 @@ IsKept None new = ⊤
 IsKept (Some x) None = ⊥
 IsKept (Some x) (Some y) = y ≡ x
 
--- these were told behind the ones that were told before
+-- these were told after the ones that were told before
 abbrev pub Gains : {A : Type 0} → Option (List A) → Option (List A) → List A → Type 0
 Gains None new more = ⊤
 Gains (Some xs) None more = ⊥
@@ -25,7 +25,7 @@ RanDry None new = ⊤
 RanDry (Some xs) None = ⊥
 RanDry (Some xs) (Some ys) = ys ≡ []
 
--- what another object tells, where it tells it, was told behind
+-- what another object tells, where it tells it, was told after it
 abbrev pub Joins : {A : Type 0} → Option (List A) → Option (List A) → Option (List A) → Type 0
 Joins old new None = ⊤
 Joins old new (Some more) = Gains old new more

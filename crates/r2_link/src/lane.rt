@@ -14,7 +14,7 @@ pub type Items = Listed<Item>;
 /// What one link in memory, or one of its twins, is made from.
 #[derive(Debug, PartialEq, Eq, Drop)]
 pub struct Lane {
-    /// What `receive` gives, in order. Behind the last item it gives the end.
+    /// What `receive` gives, in order. After the last item it gives the end.
     pub items: Items,
     /// What `bind` and `send` may use: a call each, and the bytes that are sent.
     pub room: Room,

@@ -1,6 +1,6 @@
 ghost use Rattle.std.specs.Prelude.{◌≡◌, ℕ, List, ◌+◌, ◌<◌, ◌≤◌, ◌⊎◌, ◌∷◌, ◌++◌, ⊤, length, drop, map, min, Some, [], Contains, MatchResult, if◌then◌else◌, is_ok, IfOk, IfErr, IsErr, IsErrAnd, OnOk, OnErr, ◌↔◌, ◌-◌, ◌^◌};
 ghost use Rattle.r2_link.specs.Faults.{Rose, counted, counted_where};
-ghost use Rattle.r2_link.specs.Memory.{IsTooSmall, room_behind, begun, next_lane, told_by};
+ghost use Rattle.r2_link.specs.Memory.{IsTooSmall, room_after, begun, next_lane, told_by};
 ghost use Rattle.r2_link.specs.Told.{RanDry};
 ghost use Rattle.r2_link.specs.Lanes.{IsFault, is_fault};
 ghost use Rattle.r2_link.specs.Links.{LinkPasses, Rejoins, SendsAtMost, Splits, received};
@@ -74,7 +74,7 @@ impl Link for MemLink {
         ensures left { self.new.left ≡ self.old.left }
         ensures past { self.new.sent ≡ self.old.sent }
         ensures lanes { self.new.lanes ≡ self.old.lanes }
-        ensures room { self.new.room ≡ (if is_ok result then room_behind self.old.room 0 else self.old.room) }
+        ensures room { self.new.room ≡ (if is_ok result then room_after self.old.room 0 else self.old.room) }
 
         ensures calls { self.new.calls ≡ counted self.old.calls }
         ensures fails { self.new.fails ≡ self.old.fails }
@@ -135,7 +135,7 @@ impl Link for MemLink {
         ensures lanes { self.new.lanes ≡ self.old.lanes }
 
         ensures exact { IsErr result ↔ (Contains self.old.fails (self.old.calls + 1) ⊎ IsTooSmall self.old.room (length d.now.bytes)) }
-        ensures room { self.new.room ≡ (if is_ok result then room_behind self.old.room (length d.now.bytes) else self.old.room) }
+        ensures room { self.new.room ≡ (if is_ok result then room_after self.old.room (length d.now.bytes) else self.old.room) }
 
         ensures calls { self.new.calls ≡ counted self.old.calls }
         ensures fails { self.new.fails ≡ self.old.fails }

@@ -2,7 +2,7 @@ ghost use Rattle.std.specs.Prelude.{◌≡◌, ℕ, List, ◌+◌, ◌<◌, ◌�
 ghost use Rattle.std.specs.Io.{WritesAtMost};
 ghost use Rattle.std.specs.Io.KnownBytes.{WriteAppends};
 ghost use Rattle.r2_link.specs.Faults.{Rose, counted};
-ghost use Rattle.r2_link.specs.Memory.{IsTooSmall, room_behind};
+ghost use Rattle.r2_link.specs.Memory.{IsTooSmall, room_after};
 
 use crate::Sink;
 use crate::calls::is_refused;
@@ -73,7 +73,7 @@ impl Sink for MemSink {
         // The whole piece, unless this call is to fail or the room is too small for it.
         ensures exact { IsErr result ↔ (Contains self.old.fails (self.old.calls + 1) ⊎ IsTooSmall self.old.room (length piece.now)) }
         ensures whole { IfOk result (λ n. n ≡ length piece.now) }
-        ensures room { self.new.room ≡ (if is_ok result then room_behind self.old.room (length piece.now) else self.old.room) }
+        ensures room { self.new.room ≡ (if is_ok result then room_after self.old.room (length piece.now) else self.old.room) }
 
         ensures calls { self.new.calls ≡ counted self.old.calls }
         ensures fails { self.new.fails ≡ self.old.fails }
@@ -96,7 +96,7 @@ fn append(items: &mut Vec<u8>, room: &mut Room, piece: &[u8])
     requires bytes { length piece.now ≤ room.old.bytes }
     requires reserved { length items.old.items + room.old.bytes ≤ vec_capacity items.old }
     ensures items { items.new.items ≡ items.old.items ++ piece.now }
-    ensures room { room.new ≡ room_behind room.old (length piece.now) }
+    ensures room { room.new ≡ room_after room.old (length piece.now) }
     ensures reserved { length items.new.items + room.new.bytes ≤ vec_capacity items.new }
 {
     room.bytes -= piece.len() as u64;

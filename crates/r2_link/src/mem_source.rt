@@ -60,7 +60,7 @@ impl Source for MemSource {
         // As many bytes as fit, unless this call is to fail.
         ensures exact { IsErr result ↔ Contains self.old.fails (self.old.calls + 1) }
         ensures count { IfOk result (λ n. n ≡ min (length into.old) (length self.old.left)) }
-        ensures behind { IfOk result (λ n. drop n into.new ≡ drop n into.old) }
+        ensures rest { IfOk result (λ n. drop n into.new ≡ drop n into.old) }
         ensures refused { OnErr result (into.new ≡ into.old) }
 
         ensures calls { self.new.calls ≡ counted self.old.calls }
@@ -73,16 +73,16 @@ impl Source for MemSource {
             self.faults = self.faults.saturating_add(1);
             return Err(Failed);
         }
-        let count = copy_front(&self.bytes.as_slice()[self.at..], into);
+        let count = copy_prefix(&self.bytes.as_slice()[self.at..], into);
         self.at += count;
         Ok(count)
     }
 }
 
-fn copy_front(from: &[u8], into: &mut [u8]) -> usize
+fn copy_prefix(from: &[u8], into: &mut [u8]) -> usize
     ensures count { result ≡ min (length into.old) (length from.now) }
     ensures copied { take result into.new ≡ take result from.now }
-    ensures behind { drop result into.new ≡ drop result into.old }
+    ensures rest { drop result into.new ≡ drop result into.old }
 {
     let count = into.len().min(from.len());
     into[..count].copy_from_slice(&from[..count]);

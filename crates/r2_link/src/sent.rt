@@ -1,6 +1,6 @@
 ghost use Rattle.std.specs.Prelude.{◌≡◌, ◌+◌, ◌<◌, ◌≤◌, ◌++◌, ◌∷◌, [], length, map, take, drop, OnOk, IfOk};
 ghost use Rattle.r2_base.specs.declared.room.Room.{Room};
-ghost use Rattle.r2_link.specs.Memory.{room_behind};
+ghost use Rattle.r2_link.specs.Memory.{room_after};
 ghost use Rattle.r2_link.specs.Sent.{datagram_at, sent_upto, all_sent, IsReady};
 
 use r2_base::{Addr, Bytes, Datagram, NoMemory, Room};
@@ -53,13 +53,13 @@ pub(crate) fn reserve(alloc: Global, room: Room) -> Result<Box<SentRecord>, NoMe
     Ok(Box::new(alloc, record)?)
 }
 
-/// Puts a datagram behind those of the record, within the capacity that was reserved for the room.
+/// Appends a datagram to those of the record, within the capacity that was reserved for the room.
 pub(crate) fn append(own: &mut SentRecord, room: Room, d: &Datagram)
     requires ready { IsReady own.old room }
     requires calls { 0 < room.calls }
     requires bytes { length d.now.bytes ≤ room.bytes }
     ensures sent { all_sent own.new ≡ all_sent own.old ++ d.now ∷ [] }
-    ensures ready { IsReady own.new (room_behind room (length d.now.bytes)) }
+    ensures ready { IsReady own.new (room_after room (length d.now.bytes)) }
 {
     let head = Head {
         from: d.from,
@@ -75,7 +75,7 @@ pub(crate) fn append(own: &mut SentRecord, room: Room, d: &Datagram)
     }
 }
 
-/// Puts the datagrams of a twin behind those of the record.
+/// Appends the datagrams of a twin to those of the record.
 pub(crate) fn join(own: &mut SentRecord, mut twin: Box<SentRecord>)
     ensures sent { all_sent own.new ≡ all_sent own.old ++ all_sent twin.value }
     ensures ready { (room : Room) → IsReady own.old room → IsReady own.new room }
@@ -161,6 +161,6 @@ fn datagram(alloc: Global, bytes: &[u8], head: Head) -> Result<Datagram, NoMemor
 fn run_of<T>(items: &[T], from: usize, len: usize) -> &[T]
     ensures { result.now ≡ take len (drop from items.now) }
 {
-    let behind = &items[from.min(items.len())..];
-    &behind[..len.min(behind.len())]
+    let rest = &items[from.min(items.len())..];
+    &rest[..len.min(rest.len())]
 }

@@ -2,7 +2,7 @@ ghost use Rattle.std.specs.Prelude.{ℕ, List, Option, length, ◌<◌, ◌≤�
 ghost use Rattle.std.specs.Io.{WritesAtMost};
 ghost use Rattle.std.specs.Io.KnownBytes.{Appends, WriteAppends};
 ghost use Rattle.r2_link.specs.Faults.{Rose};
-ghost use Rattle.r2_link.specs.Streams.{AppendsFront};
+ghost use Rattle.r2_link.specs.Streams.{AppendsPrefix};
 
 use r2_base::Failed;
 
@@ -14,7 +14,7 @@ pub trait Sink {
     /// How often the sink has failed.
     ghost faults: { Self → ℕ };
 
-    /// Takes the front of `piece`, at least one byte where there is one.
+    /// Takes a prefix of `piece`, at least one byte where there is one.
     fn write(&mut self, piece: &[u8]) -> Result<usize, Failed>
         ensures bound { WritesAtMost result piece.now }
         ensures some { 0 < length piece.now → IfOk result (λ n. 0 < n) }
@@ -23,10 +23,10 @@ pub trait Sink {
         ensures cause { OnErr result (Rose (faults self.old) (faults self.new)) };
 }
 
-/// Writes the whole piece, in as many calls as it takes. A failure leaves a front of it written.
+/// Writes the whole piece, in as many calls as it takes. A failure leaves a prefix of it written.
 pub fn write_all<K: Sink>(sink: &mut K, piece: &[u8]) -> Result<(), Failed>
     ensures whole { OnOk result (Appends (K.written sink.old) (K.written sink.new) piece.now) }
-    ensures front { AppendsFront (K.written sink.old) (K.written sink.new) piece.now }
+    ensures prefix { AppendsPrefix (K.written sink.old) (K.written sink.new) piece.now }
     ensures steady { K.faults sink.old ≤ K.faults sink.new }
     ensures cause { OnErr result (Rose (K.faults sink.old) (K.faults sink.new)) }
 {
@@ -64,7 +64,7 @@ mod tests {
     }
 
     #[test]
-    fn whole_piece_in_several_calls_and_a_front_of_the_next(rt: HostRuntime) -> Result<(), Fail> {
+    fn whole_piece_in_several_calls_and_a_prefix_of_the_next(rt: HostRuntime) -> Result<(), Fail> {
         let room = Room { bytes: 8, calls: 8 };
         let fails = Numbers::from_vec([6].to_vec(rt.alloc())?);
         let inner = MemSink::new(rt.alloc(), room, fails)?;

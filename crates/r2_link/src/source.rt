@@ -13,7 +13,7 @@ pub trait Source {
     /// How often the source has failed.
     ghost faults: { Self → ℕ };
 
-    /// Reads some of what is left into the front of `into`. It gives 0 bytes only at the end, or where `into` is empty.
+    /// Reads some of what is left into the beginning of `into`. It gives 0 bytes only at the end, or where `into` is empty.
     fn read(&mut self, into: &mut [u8]) -> Result<usize, Failed>
         ensures bound { ReadsAtMost result into.new }
         ensures bytes { ReadConsumes (left self.old) (left self.new) result into.new }

@@ -271,13 +271,14 @@ mod tests {
         None
     }
 
-    // How many bytes of a datagram of 3,000 come to a twin of the receiver, which has the same socket.
+    // What comes of a datagram of 3,000 bytes to a twin of the receiver, which has the same socket: its sender, its receiver, and how
+    // many bytes.
     fn brought<L: Twin>(
         alloc: Global,
         client: &mut L,
         server: &mut L,
         to: Addr,
-    ) -> Result<Option<usize>, LinkFault> {
+    ) -> Result<Option<(Addr, Addr, usize)>, LinkFault> {
         let Ok(bytes) = Vec::from_slice(alloc, &[7; 3_000]) else {
             return Err(LinkFault::Memory);
         };
@@ -288,7 +289,7 @@ mod tests {
         let got = twin.receive(alloc, 2_000);
         server.rejoin(twin);
         match got? {
-            Got::Datagram(d) => Ok(Some(d.bytes.len())),
+            Got::Datagram(d) => Ok(Some((d.from, d.to, d.bytes.len()))),
             _ => Ok(None),
         }
     }
@@ -297,15 +298,28 @@ mod tests {
     fn datagram_goes_over_the_loopback(rt: HostRuntime) {
         let mut client = UdpLink::new(&rt);
         let mut server = UdpLink::new(&rt);
-        assert!(rt; bound(&mut client, 41_000).is_some());
+        let from = bound(&mut client, 41_000);
         let to = bound(&mut server, 42_000);
+        assert!(rt; from.is_some());
         assert!(rt; to.is_some());
-        if let Some(to) = to {
+        if let (Some(from), Some(to)) = (from, to) {
             assert_eq!(rt; server.receive(rt.alloc(), 1), Ok(Got::Quiet));
             assert_eq!(rt; server.receive(rt.alloc(), 0), Ok(Got::Quiet));
             let got = brought(rt.alloc(), &mut client, &mut server, to);
-            assert_eq!(rt; got, Ok(Some(2_048)));
+            assert_eq!(rt; got, Ok(Some((from, to, 2_048))));
             assert_eq!(rt; server.receive(rt.alloc(), 0), Ok(Got::Quiet));
+        }
+    }
+
+    // A wait of 0 needs no other before it, and a socket that is bound anew is given its wait again.
+    #[test]
+    fn wait_ends_where_nothing_comes(rt: HostRuntime) {
+        let mut link = UdpLink::new(&rt);
+        for first in [44_000, 45_000] {
+            assert!(rt; bound(&mut link, first).is_some());
+            for wait_ms in [0, 1, 0] {
+                assert_eq!(rt; link.receive(rt.alloc(), wait_ms), Ok(Got::Quiet));
+            }
         }
     }
 

@@ -1,8 +1,9 @@
-use Rattle.std.proofs.Common.{◌∙◌, [], ◌∷◌, None, refl, ap, arith}
+use Rattle.std.proofs.Common.{◌∙◌, [], ◌∷◌, refl, ap, arith}
 use Rattle.cmd_loop.specs.declared.ticker.Ticker.{Ticker}
 use Rattle.cmd_loop.specs.Ends.{Ends}
 use Rattle.cmd_loop.proofs.Loops.{at-next, at-start, within-of}
 use Rattle.cmd_loop.proofs.Endings.{ended-closing, ended-item, ended-start, ended-tick, ended-turns}
+use Rattle.cmd_loop.proofs.Passing.{silent}
 use Rattle.cmd_loop.proofs.Ticks.{clock-told}
 use Rattle.cmd_loop.proofs.serving.serve.Goals as goal
 
@@ -74,7 +75,6 @@ rounds-preserved g c =
     let before = c.rounds.invariant.steady in
     let half = c.in-Ok-true.ensures.steady in
     let then = c.in_default-ask_clock.ensures.steady in
-    let untold : Ends = record { source = None; written = None; link = g.L.Link.told c.args.link.now; clock = None; records = None } in
     record {
       at = λ o.
           let a : Ends = record o { link = g.L.Link.told c.args.link.now; clock = g.C.Clock.left c.args.clock.now; records = g.J.Journal.records c.args.journal.now } in
@@ -85,7 +85,7 @@ rounds-preserved g c =
           (record o { link = g.L.Link.told c.ask_clock.new.link; clock = g.C.Clock.left c.ask_clock.new.clock; records = g.J.Journal.records c.ask_clock.new.journal })
           (within-of g.P.Party.turned c.args.party.now c.rounds.party c.take_item.new.party c.in-Ok.start c.args.pace.tick_ms c.rounds.ticker c.rounds.made a b d took.0 (c.rounds.invariant.at o) took.1)
           (c.in_default-ask_clock.ensures.made o);
-      tick = ap (λ (t : Ticker). t.tick_ms) (c.in_default-ask_clock.ensures.made untold).ticker ∙ c.rounds.invariant.tick;
+      tick = ap (λ (t : Ticker). t.tick_ms) (c.in_default-ask_clock.ensures.made silent).ticker ∙ c.rounds.invariant.tick;
       room = (ticked.0, omega (arith, ticked.1, heard.1, room.1), ticked.2);
       recorded = c.in_default-ask_clock.ensures.recorded;
       is_open = c.in_default-ask_clock.ensures.open;

@@ -1,63 +1,63 @@
 -- The line is five pieces, of which the first three are one.
 use Rattle.std.proofs.Common.{◌∷◌, ◌++◌, [], codes}
-use Rattle.cmd_status.proofs.Reports.{all_three, front_of_first, front_of_second, front_of_third, on_ok}
+use Rattle.cmd_status.proofs.Reports.{all_three, prefix_of_first, prefix_of_second, prefix_of_third, on_ok}
 use Rattle.cmd_router.specs.Totals.{count_text, totals_line}
 use Rattle.cmd_router.proofs.router_totals.write_totals.Goals as goal
 
-pub returns-in_err-write_count-clause-front : goal.returns-in_err-write_count-clause-front
+pub returns-in_err-write_count-clause-prefix : goal.returns-in_err-write_count-clause-prefix
 unfolding totals_line
-returns-in_err-write_count-clause-front g c =
+returns-in_err-write_count-clause-prefix g c =
     let t = c.args.totals in
     let one = count_text (codes "turns ") t.turns in
     let two = count_text (codes " accepted ") t.accepted in
     let three = count_text (codes " forwarded ") t.forwarded in
     let four = count_text (codes " answered ") t.answered in
-    front_of_first _ _ (one ++ two ++ three) four (10 ∷ []) (front_of_first _ _ one two three c.in_err-write_count.ensures.front)
+    prefix_of_first _ _ (one ++ two ++ three) four (10 ∷ []) (prefix_of_first _ _ one two three c.in_err-write_count.ensures.prefix)
 
-pub returns-in_err-write_count-2-clause-front : goal.returns-in_err-write_count-2-clause-front
+pub returns-in_err-write_count-2-clause-prefix : goal.returns-in_err-write_count-2-clause-prefix
 unfolding totals_line
-returns-in_err-write_count-2-clause-front g c =
+returns-in_err-write_count-2-clause-prefix g c =
     let t = c.args.totals in
     let one = count_text (codes "turns ") t.turns in
     let two = count_text (codes " accepted ") t.accepted in
     let three = count_text (codes " forwarded ") t.forwarded in
     let four = count_text (codes " answered ") t.answered in
-    front_of_first _ _ (one ++ two ++ three) four (10 ∷ []) (front_of_second _ _ _ one two three c.in_ok-write_count.ensures.whole c.in_err-write_count-2.ensures.front)
+    prefix_of_first _ _ (one ++ two ++ three) four (10 ∷ []) (prefix_of_second _ _ _ one two three c.in_ok-write_count.ensures.whole c.in_err-write_count-2.ensures.prefix)
 
-pub returns-in_err-write_count-3-clause-front : goal.returns-in_err-write_count-3-clause-front
+pub returns-in_err-write_count-3-clause-prefix : goal.returns-in_err-write_count-3-clause-prefix
 unfolding totals_line
-returns-in_err-write_count-3-clause-front g c =
+returns-in_err-write_count-3-clause-prefix g c =
     let t = c.args.totals in
     let one = count_text (codes "turns ") t.turns in
     let two = count_text (codes " accepted ") t.accepted in
     let three = count_text (codes " forwarded ") t.forwarded in
     let four = count_text (codes " answered ") t.answered in
-    front_of_first _ _ (one ++ two ++ three) four (10 ∷ [])
-    (front_of_third _ _ _ _ one two three c.in_ok-write_count.ensures.whole c.in_ok-write_count-2.ensures.whole c.in_err-write_count-3.ensures.front)
+    prefix_of_first _ _ (one ++ two ++ three) four (10 ∷ [])
+    (prefix_of_third _ _ _ _ one two three c.in_ok-write_count.ensures.whole c.in_ok-write_count-2.ensures.whole c.in_err-write_count-3.ensures.prefix)
 
-pub returns-in_err-write_count-4-clause-front : goal.returns-in_err-write_count-4-clause-front
+pub returns-in_err-write_count-4-clause-prefix : goal.returns-in_err-write_count-4-clause-prefix
 unfolding totals_line
-returns-in_err-write_count-4-clause-front g c =
+returns-in_err-write_count-4-clause-prefix g c =
     let t = c.args.totals in
     let one = count_text (codes "turns ") t.turns in
     let two = count_text (codes " accepted ") t.accepted in
     let three = count_text (codes " forwarded ") t.forwarded in
     let four = count_text (codes " answered ") t.answered in
-    front_of_second _ _ _ (one ++ two ++ three) four (10 ∷ [])
+    prefix_of_second _ _ _ (one ++ two ++ three) four (10 ∷ [])
     (all_three _ _ _ _ one two three c.in_ok-write_count.ensures.whole c.in_ok-write_count-2.ensures.whole c.in_ok-write_count-3.ensures.whole)
-    c.in_err-write_count-4.ensures.front
+    c.in_err-write_count-4.ensures.prefix
 
-pub returns-clause-front : goal.returns-clause-front
+pub returns-clause-prefix : goal.returns-clause-prefix
 unfolding totals_line
-returns-clause-front g c =
+returns-clause-prefix g c =
     let t = c.args.totals in
     let one = count_text (codes "turns ") t.turns in
     let two = count_text (codes " accepted ") t.accepted in
     let three = count_text (codes " forwarded ") t.forwarded in
     let four = count_text (codes " answered ") t.answered in
-    front_of_third _ _ _ _ (one ++ two ++ three) four (10 ∷ [])
+    prefix_of_third _ _ _ _ (one ++ two ++ three) four (10 ∷ [])
     (all_three _ _ _ _ one two three c.in_ok-write_count.ensures.whole c.in_ok-write_count-2.ensures.whole c.in_ok-write_count-3.ensures.whole)
-    c.in_ok-write_count-4.ensures.whole c.write_all.ensures.front
+    c.in_ok-write_count-4.ensures.whole c.write_all.ensures.prefix
 
 pub returns-clause-whole : goal.returns-clause-whole
 unfolding totals_line

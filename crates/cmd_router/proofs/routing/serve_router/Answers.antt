@@ -1,5 +1,5 @@
 -- The loop over a new router is one over the empty history, and the totals are those of what its events made of it.
-use Rattle.std.proofs.Common.{List, None, arith}
+use Rattle.std.proofs.Common.{List, arith}
 use Rattle.r2_base.specs.declared.datagram.Datagram.{Datagram}
 use Rattle.r2_base.specs.declared.event.Event.{Event}
 use Rattle.r2_link.specs.Faults.{Rose}
@@ -7,6 +7,7 @@ use Rattle.r2_jbsq.specs.declared.router_setup.RouterSetup.{RouterSetup}
 use Rattle.cmd_loop.specs.Ends.{Ends}
 use Rattle.cmd_loop.specs.Happenings.{events_of}
 use Rattle.cmd_loop.specs.Plain.{Unstored}
+use Rattle.cmd_loop.proofs.Passing.{silent}
 use Rattle.cmd_router.specs.Routed.{RouterSends}
 use Rattle.cmd_router.specs.Totals.{totals_line}
 use Rattle.cmd_router.proofs.Routes.{Counted, ends-well, new-counted, new-sends, routes-of, unstored-gives}
@@ -34,10 +35,8 @@ returns-in-Ok-serve_on_twin-clause-ran g c o =
 
 pub returns-in-Ok-serve_on_twin-clause-complete : goal.returns-in-Ok-serve_on_twin-clause-complete
 returns-in-Ok-serve_on_twin-clause-complete g c =
-    let link = g.L.Link.told c.args.link.now in
-    let untold : Ends = record { source = None; written = None; link = link; clock = None; records = None } in
-    ends-well _ _ _ c.args.pace (record untold { clock = g.C.Clock.left c.args.clock.now })
-    (record untold { link = g.L.Link.told c.serve_on_twin.new.link; clock = g.C.Clock.left c.serve_on_twin.new.clock })
+    ends-well _ _ _ c.args.pace (record silent { link = g.L.Link.told c.args.link.now; clock = g.C.Clock.left c.args.clock.now })
+    (record silent { link = g.L.Link.told c.serve_on_twin.new.link; clock = g.C.Clock.left c.serve_on_twin.new.clock })
     (g.L.Link.faults c.args.link.now) (g.L.Link.faults c.serve_on_twin.new.link) (g.C.Clock.faults c.args.clock.now) (g.C.Clock.faults c.serve_on_twin.new.clock)
     (Rose (g.K.Sink.faults c.args.sink.now) (g.K.Sink.faults c.tell_end.new.sink)) c.in-Ok-serve_on_twin.ended c.tell_end.result
-    (c.in-Ok-serve_on_twin.ensures.ran untold) c.in-Ok-serve_on_twin.ensures.caused c.tell_end.ensures.cause
+    (c.in-Ok-serve_on_twin.ensures.ran silent) c.in-Ok-serve_on_twin.ensures.caused c.tell_end.ensures.cause

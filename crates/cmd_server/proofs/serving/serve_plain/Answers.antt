@@ -1,9 +1,8 @@
 -- A loop over a new server is one over the turns of the server that begins.
-use Rattle.std.proofs.Common.{None}
-use Rattle.cmd_loop.specs.Ends.{Ends}
 use Rattle.cmd_loop.specs.Plain.{Unstored}
 use Rattle.cmd_server.specs.Plain.{PlainSends}
 use Rattle.cmd_server.proofs.PlainTurns.{plain-sends}
+use Rattle.cmd_loop.proofs.Passing.{silent}
 use Rattle.cmd_loop.proofs.Weaker.{serves-calm, serves-nothing, serves-weaker}
 use Rattle.cmd_loop.specs.Happenings.{events_of}
 use Rattle.cmd_server.proofs.serving.serve_plain.Goals as goal
@@ -28,9 +27,8 @@ returns-clause-ran g c o =
 
 pub returns-clause-complete : goal.returns-clause-complete
 returns-clause-complete g c =
-    let untold : Ends = record { source = None; written = None; link = g.L.Link.told c.args.link.now; clock = None; records = None } in
     let clock = g.C.Clock.left c.args.clock.now in
     let clock' = g.C.Clock.left c.serve_without_journal.new.clock in
-    serves-calm _ _ _ c.args.pace (record untold { clock = clock }) (record untold { link = g.L.Link.told c.serve_without_journal.new.link; clock = clock' })
+    serves-calm _ _ _ c.args.pace (record silent { link = g.L.Link.told c.args.link.now; clock = clock }) (record silent { link = g.L.Link.told c.serve_without_journal.new.link; clock = clock' })
     (g.L.Link.faults c.args.link.now) (g.L.Link.faults c.serve_without_journal.new.link) (g.C.Clock.faults c.args.clock.now) (g.C.Clock.faults c.serve_without_journal.new.clock)
-    c.serve_without_journal.result (c.serve_without_journal.ensures.ran untold) c.serve_without_journal.ensures.caused
+    c.serve_without_journal.result (c.serve_without_journal.ensures.ran silent) c.serve_without_journal.ensures.caused

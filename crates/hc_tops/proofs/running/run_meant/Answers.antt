@@ -1,4 +1,4 @@
--- A router and a server, as the table has them, behind a bind.
+-- A router and a server, as the table has them, after a bind.
 use Rattle.std.proofs.Common.{inr, subst}
 use Rattle.cmd_status.specs.declared.status.Status.{Status}
 use Rattle.cmd_loop.specs.Ends.{Ends}

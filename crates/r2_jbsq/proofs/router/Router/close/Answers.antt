@@ -2,7 +2,7 @@ use Rattle.std.proofs.Common.{sym, subst}
 use Rattle.r2_jbsq.specs.Standing.{closed}
 use Rattle.r2_jbsq.specs.State.{IsSound}
 use Rattle.r2_jbsq.specs.declared.decision.Decision.TheVariants as decision
-use Rattle.r2_jbsq.proofs.Closing.{closing, room-behind}
+use Rattle.r2_jbsq.proofs.Closing.{closing, room-after}
 use Rattle.r2_jbsq.proofs.Packets.{closed-inside, closed-requests, first-gone-requests}
 use Rattle.r2_jbsq.proofs.Sound.{step-sound}
 use Rattle.r2_jbsq.proofs.router.Router.close.Goals as goal
@@ -10,7 +10,7 @@ use Rattle.r2_jbsq.proofs.router.Router.close.Goals as goal
 pub move_on-moved_on-requires-clause-room : goal.move_on-moved_on-requires-clause-room
 move_on-moved_on-requires-clause-room c =
     let fits = rw (← c.self.view_is) at c.requires.fits in
-    rw c.close.ensures (room-behind _ _ _ c.self.invariant.sound fits c.self.invariant.n)
+    rw c.close.ensures (room-after _ _ _ c.self.invariant.sound fits c.self.invariant.n)
 
 pub invariant_of-self : goal.invariant_of-self
 invariant_of-self c =

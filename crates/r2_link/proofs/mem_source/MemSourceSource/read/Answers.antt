@@ -3,7 +3,7 @@ use Rattle.std.proofs.lemmas.Grind.{common_steps}
 use Rattle.std.proofs.lemmas.List.{take-append-drop, drop-drop, length-drop, nil_from_length}
 use Rattle.r2_link.proofs.mem_source.MemSourceSource.read.Goals as goal
 
--- the n bytes at the front of what is left went over, and none only where none was left
+-- the n bytes at the beginning of what is left went over, and none only where none was left
 moved : (bs rest into new : List ℕ) (at n : ℕ) → rest ≡ drop at bs → n ≡ min (length into) (length rest) → take n new ≡ take n rest → length new ≡ length into
     → (drop at bs ≡ take n new ++ drop (at + n) bs) × (n ≡ 0 → 0 < length new → drop (at + n) bs ≡ [])
 moved bs rest into new at n is count copied len = (
@@ -13,5 +13,5 @@ moved bs rest into new at n is count copied len = (
 
 pub returns-clause-bytes : goal.returns-clause-bytes
 returns-clause-bytes c =
-    let both = moved c.self.inside.bytes _ c.args.into.now _ c.self.inside.at _ (grind (arith, common_steps)) c.copy_front-count.ensures.count c.copy_front-count.ensures.copied (grind (arith, common_steps)) in
+    let both = moved c.self.inside.bytes _ c.args.into.now _ c.self.inside.at _ (grind (arith, common_steps)) c.copy_prefix-count.ensures.count c.copy_prefix-count.ensures.copied (grind (arith, common_steps)) in
     (sym (ap (λ s. s.left) c.self.view_is) ∙ both.0, both.1)

@@ -1,0 +1,15 @@
+pub mod Others
+pub mod Asked
+pub mod DirectOrders
+pub mod Keeps
+pub mod VoteRows
+pub mod ReportRows
+pub mod OrderRows
+pub mod FreshOrders
+pub mod TickRows
+pub mod Held
+pub mod Again
+pub mod TurnRows
+pub mod Settling
+pub mod Finishing
+pub mod Nodes

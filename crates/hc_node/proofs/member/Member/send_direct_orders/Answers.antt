@@ -1,0 +1,31 @@
+-- Each turn of the loop goes to one member more.
+use Rattle.std.proofs.Common.{◌≡◌, ℕ, ◌++◌, length, refl, sym, ap, ◌∙◌, arith}
+use Rattle.hc_member.specs.Orders.{direct_order}
+use Rattle.hc_member.specs.Sending.{Sending}
+use Rattle.hc_node.proofs.Others.{sent_below, step-next, step-passed}
+use Rattle.hc_node.proofs.member.Member.send_direct_orders.Goals.{then-is_other+in_ok-send_direct_order, else-is_other}
+use Rattle.hc_node.proofs.member.Member.send_direct_orders.Goals as goal
+
+pub members-preserved : goal.members-preserved
+members-preserved g c =
+    let s = c.args.setup.now in
+    let f : ℕ → Sending = direct_order s c.args.self.now in
+    let so_far = c.members.invariant in
+    elim c.if-is_other.branch [
+      | then-is_other+in_ok-send_direct_order w ↦
+          step-next s f c.members.member c.args.sends.now.items c.members.sends.items c.if-is_other.sends.items so_far
+          (sym c.is_other.ensures.other ∙ w.if-is_other.true)
+          (rw (w.sends-is, w.in_ok-send_direct_order.ensures) refl)
+      | else-is_other w ↦
+          step-passed s f c.members.member c.args.sends.now.items c.members.sends.items c.if-is_other.sends.items so_far
+          (sym c.is_other.ensures.other ∙ w.if-is_other.false)
+          (rw w.sends-is refl)
+    ]
+
+pub returns : goal.returns
+returns g c =
+    let s = c.args.setup.now in
+    let f : ℕ → Sending = direct_order s c.args.self.now in
+    let all : c.members.member ≡ c.members-member-end.result = omega arith in
+    let end : c.members.member ≡ length s.members = all ∙ c.members-member-end.ensures in
+    c.members.invariant ∙ ap (λ (n : ℕ). c.args.sends.now.items ++ sent_below s f n) end

@@ -1,0 +1,29 @@
+-- A meaning of a command is made of what that command is told.
+use Rattle.std.proofs.Common.{◌∙◌}
+use Rattle.hc_text.specs.declared.command_name.CommandName.TheVariants.{Router, Server, Client, Replay}
+use Rattle.hc_text.proofs.Commands.{of_name, says_made}
+use Rattle.hc_text.proofs.words.read_options.Goals as goal
+
+pub returns-in-Router-clause-only : goal.returns-in-Router-clause-only
+returns-in-Router-clause-only c = λ m is says.
+    let q = of_name m Router (is ∙ c.in-Router.is) in
+    let f = q.fields in
+    c.read_router.ensures.only f.0 f.1 f.2 f.3 f.4 f.5 (says_made Router m _ q says)
+
+pub returns-in-Server-clause-only : goal.returns-in-Server-clause-only
+returns-in-Server-clause-only c = λ m is says.
+    let q = of_name m Server (is ∙ c.in-Server.is) in
+    let f = q.fields in
+    c.read_server.ensures.only f.0 f.1 f.2 f.3 (says_made Server m _ q says)
+
+pub returns-in-Client-clause-only : goal.returns-in-Client-clause-only
+returns-in-Client-clause-only c = λ m is says.
+    let q = of_name m Client (is ∙ c.in-Client.is) in
+    let f = q.fields in
+    c.read_client.ensures.only f.0 f.1 f.2 f.3 f.4 f.5 f.6 (says_made Client m _ q says)
+
+pub returns-in-Replay-clause-only : goal.returns-in-Replay-clause-only
+returns-in-Replay-clause-only c = λ m is says.
+    let q = of_name m Replay (is ∙ c.in-Replay.is) in
+    let f = q.fields in
+    c.read_replay.ensures.only f.0 f.1 f.2 f.3 f.4 (says_made Replay m _ q says)
