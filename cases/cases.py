@@ -21,8 +21,9 @@ from texts import BadCase, digit_bytes, exact_bytes, plain_bytes, words_of
 # the output, and of the errors, where it begins in it and the line of the case's file that says it.
 Run = collections.namedtuple("Run", "name words input output errors status places")
 
-# Datagrams that come to a server from an address of the case's own: its name, the server's, and the bytes of each.
-Peer = collections.namedtuple("Peer", "name server datagrams")
+# Datagrams that come to a server from an address of the case's own: its name, the server's, and the bytes of each; and those that must have
+# come to the address in the end, an empty list where it isn't looked at.
+Peer = collections.namedtuple("Peer", "name server datagrams wanted")
 
 # A file in the folder in which the programs run: its name, and its bytes before the first of them starts and after the last has ended;
 # nothing where there is no such file then.
@@ -74,9 +75,10 @@ class Section:
 
     def peer(self):
         """Each line is the digits of a datagram."""
-        if self.words is not None or self.status is not None or self.texts[OUTPUT] or self.texts[ERRORS]:
-            raise BadCase(f"{self.name} has other lines than <")
-        return Peer(self.name, self.server, [bytes.fromhex(line.decode()) for line in self.texts[INPUT].splitlines()])
+        if self.words is not None or self.status is not None or self.texts[ERRORS]:
+            raise BadCase(f"{self.name} has other lines than < and >")
+        given, wanted = ([bytes.fromhex(line.decode()) for line in self.texts[mark].splitlines()] for mark in (INPUT, OUTPUT))
+        return Peer(self.name, self.server, given, wanted)
 
     def run(self):
         if self.words is None or self.status is None:

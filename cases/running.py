@@ -16,8 +16,8 @@ SECONDS = 60  # for one case
 # How a run ended: its status, which is nothing where it was ended after so many seconds, and what it printed.
 Ended = collections.namedtuple("Ended", "run status output errors")
 
-# How a case ended: how its runs did, and the files that they left, by name.
-Outcome = collections.namedtuple("Outcome", "ended files")
+# How a case ended: how its runs did, the files that they left, by name, and the datagrams that came to its peers, by theirs.
+Outcome = collections.namedtuple("Outcome", "ended files received")
 
 
 def is_built():
@@ -117,12 +117,27 @@ def port_of(name, addresses):
     return int(addresses[b"{%s}" % name.encode()].rpartition(b":")[2])
 
 
-def send_all(peer, addresses):
-    """Sends a peer's datagrams from its address."""
-    with socket.socket(socket.AF_INET, socket.SOCK_DGRAM) as outside:
-        outside.bind(("127.0.0.1", port_of(peer.name, addresses)))
-        for datagram in peer.datagrams:
-            outside.sendto(datagram, ("127.0.0.1", port_of(peer.server, addresses)))
+def socket_of(peer, addresses):
+    """A socket at a peer's address."""
+    outside = socket.socket(socket.AF_INET, socket.SOCK_DGRAM)
+    outside.bind(("127.0.0.1", port_of(peer.name, addresses)))
+    return outside
+
+
+def send_all(peer, outside, addresses):
+    """Sends a peer's datagrams from its socket."""
+    for datagram in peer.datagrams:
+        outside.sendto(datagram, ("127.0.0.1", port_of(peer.server, addresses)))
+
+
+def received_by(outside):
+    """The datagrams that came to a socket."""
+    outside.setblocking(False)
+    found = []
+    with contextlib.suppress(BlockingIOError):
+        while True:
+            found.append(outside.recv(65_536))
+    return found
 
 
 def write_files(files, folder):
@@ -159,12 +174,14 @@ def run_case(case):
         serving = [start(run) for run in case.servers]
         for each in serving:
             each.listens(end)
-        for peer in case.peers:
-            send_all(peer, addresses)
+        sockets = [started.enter_context(socket_of(peer, addresses)) for peer in case.peers]
+        for peer, outside in zip(case.peers, sockets):
+            send_all(peer, outside, addresses)
         for line in case.clients:
             calling = [start(run) for run in line]
             ended += [each.ends(end) for each in calling]
         for each in serving:
             each.spends_turns(end)
             ended.append(each.ends(end))
-        return Outcome(ended, files_in(folder))
+        received = {peer.name: received_by(outside) for peer, outside in zip(case.peers, sockets)}
+        return Outcome(ended, files_in(folder), received)

@@ -10,7 +10,8 @@ use Rattle.hc_member.specs.Finish.{finished}
 use Rattle.hc_member.specs.Member.{Member}
 use Rattle.hc_member.specs.Sound.{IsSound}
 use Rattle.cmd_replay.specs.Script.{batch_text, closing_text, last_text}
-use Rattle.cmd_replay.proofs.Batches.{closing_text-end, closing_text-more, finished-nearer}
+use Rattle.hc_member.proofs.Progress.{finished-nearer}
+use Rattle.cmd_replay.proofs.Batches.{closing_text-end, closing_text-more}
 
 -- what was printed, and what is left to print from the member as it is now, are all that the first one prints
 pub record IsClosing (s : Setup) (first m : Member) (old new : Option (List ℕ)) : Type 0 where

@@ -13,10 +13,10 @@ use Rattle.hc_member.specs.Sending.{datagrams_of_all}
 use Rattle.hc_member.specs.Setup.{IsSetup}
 use Rattle.hc_member.specs.Sound.{IsSound}
 use Rattle.hc_member.specs.Turn.{Reacted, reacted, turned}
+use Rattle.hc_member.proofs.Progress.{finished-durable}
 use Rattle.hc_node.specs.Node.{IsSoundUnlessSpent, NodeState, number_of}
 use Rattle.cmd_replay.specs.declared.replica.Replica.{Replica}
 use Rattle.cmd_replay.specs.Replica.{Gives, IsRunning, Runs, member_at, member_of, stored_list}
-use Rattle.cmd_replay.proofs.Batches.{finished-durable}
 use Rattle.cmd_replay.proofs.Records.{history-more, state-more}
 use Rattle.cmd_replay.proofs.Turned.{turned-is, turned-datagrams, turned-stores}
 

@@ -12,10 +12,10 @@ use Rattle.hc_member.specs.Laws.{IsStored}
 use Rattle.hc_member.specs.Member.{Member, durable_of}
 use Rattle.hc_member.specs.Sending.{datagrams_of, datagrams_of_all}
 use Rattle.hc_member.specs.Turn.{Reacted, reacted, turned}
+use Rattle.hc_member.proofs.Progress.{finished-durable}
 use Rattle.cmd_script.specs.Printed.{out_text}
 use Rattle.cmd_replay.specs.Printed.{stored_text, turn_text}
 use Rattle.cmd_replay.specs.Script.{batch_text, reacted_text}
-use Rattle.cmd_replay.proofs.Batches.{finished-durable}
 
 -- what a turn prints may be printed in two pieces
 turn_text-append : (stored : Option Record) (first second : List Datagram) → turn_text stored (first ++ second) ≡ turn_text stored first ++ turn_text None second

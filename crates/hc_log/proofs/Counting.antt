@@ -1,14 +1,15 @@
 -- What the entries of a log count, and what one more adds.
-use Rattle.std.proofs.Common.{◌≡◌, ℕ, ◌+◌, ◌-◌, ◌<◌, ◌≤◌, ◌^◌, cond, List, [], ◌∷◌, ◌++◌, length, take, drop, get_or, ap, sym, ◌∙◌, refl, arith, take-append-drop, length-append}
+use Rattle.std.proofs.Common.{◌≡◌, ℕ, ◌+◌, ◌-◌, ◌<◌, ◌≤◌, ◌^◌, cond, List, [], ◌∷◌, ◌++◌, length, take, drop, get_or, ap, ◌∙◌, refl, arith, take-append-drop, length-append}
 use Rattle.std.specs.Prelude.{false, ◌==◌}
-use Rattle.std.proofs.lemmas.List.{take_more, get_or_push, length_push}
+use Rattle.std.proofs.lemmas.List.{get_or_push, length_push}
 use Rattle.std.proofs.lemmas.List.Sums.{sum_by-append}
 use Rattle.r2_base.specs.Entry.{is_request}
 use Rattle.hc_log.specs.declared.stored.Stored.{Stored}
+use Rattle.hc_log.specs.declared.row.Row.{Row}
 use Rattle.hc_log.specs.declared.totals.Totals.{Totals}
-use Rattle.hc_log.specs.Ranges.{most_body_bytes}
 use Rattle.hc_log.specs.Log.{blank_of, last_term, requests_of, body_bytes_of, IsWithinLimits}
-use Rattle.hc_log.specs.Totals.{totals_of, totals_with}
+use Rattle.hc_log.specs.Rows.{stored_of}
+use Rattle.hc_log.specs.Totals.{totals_of, totals_with, totals_without}
 
 -- two lists of entries, one after the other
 pub requests_of-append : (xs ys : List Stored) → requests_of (xs ++ ys) ≡ requests_of xs + requests_of ys
@@ -70,28 +71,11 @@ IsWithinLimits-front xs ys within =
 pub IsWithinLimits-take : (n : ℕ) (log : List Stored) → IsWithinLimits log → IsWithinLimits (take n log)
 IsWithinLimits-take n log within = IsWithinLimits-front (take n log) (drop n log) (rw (take-append-drop n log) within)
 
--- the step of a loop that counts
-pub totals_of_step : (log : List Stored) (i : ℕ) (s : Stored) → i < length log → s ≡ get_or log i s → totals_of (take (i + 1) log) ≡ totals_with (totals_of (take i log)) s
-totals_of_step log i s h read =
-    ap totals_of (take_more log i s h ∙ ap (λ (x : Stored). take i log ++ x ∷ []) (sym read)) ∙ totals_of_more (take i log) s
-
 -- within the limits the next entry can be counted
 pub record CanCount (t : Totals) (s : Stored) : Type 0 where
   pub entries : t.entries + 1 < 2 ^ 64
   pub requests : t.requests + 1 < 2 ^ 64
   pub body_bytes : t.body_bytes + length s.body < 2 ^ 64
-
-pub can_count : (log : List Stored) (i : ℕ) (s : Stored) → IsWithinLimits log → i < length log → s ≡ get_or log i s → CanCount (totals_of (take i log)) s
-can_count log i s within h read =
-    let front = IsWithinLimits-take i log within in
-    let more = IsWithinLimits-take (i + 1) log within in
-    let step : take (i + 1) log ≡ take i log ++ s ∷ [] = take_more log i s h ∙ ap (λ (x : Stored). take i log ++ x ∷ []) (sym read) in
-    let bytes : body_bytes_of (take i log ++ s ∷ []) ≤ most_body_bytes = rw (← step) more.body_bytes in
-    record {
-      entries = omega (arith, front.entries);
-      requests = omega (arith, front.requests);
-      body_bytes = omega (arith, bytes, body_bytes_of_more (take i log) s);
-    }
 
 -- nothing is within the limits
 pub IsWithinLimits-none : IsWithinLimits []
@@ -107,3 +91,23 @@ can_count_more log s more =
       requests = omega (arith, front.requests);
       body_bytes = omega (arith, more.body_bytes, body_bytes_of_more log s);
     }
+
+-- the last entry of a log can be taken from what is counted of it
+pub record CanTake (t : Totals) (row : Row) : Type 0 where
+  pub entries : 1 ≤ t.entries
+  pub requests : cond (is_request row.kind) 1 0 ≤ t.requests
+  pub body_bytes : length row.body ≤ t.body_bytes
+
+pub can_take_last : (log : List Stored) (row : Row) (t : Totals) (term : ℕ) → t ≡ totals_of (log ++ stored_of term row ∷ []) → CanTake t row
+can_take_last log row t term of =
+    let counted : t ≡ totals_with (totals_of log) (stored_of term row) = of ∙ totals_of_more log (stored_of term row) in
+    rw counted (record { entries = omega arith; requests = omega arith; body_bytes = omega arith })
+
+-- and what is left is counted of the others
+pub totals_of_less : (log : List Stored) (row : Row) (t : Totals) (term before : ℕ) → t ≡ totals_of (log ++ stored_of term row ∷ []) → before ≡ last_term log → totals_without t row before ≡ totals_of log
+totals_of_less log row t term before of last =
+    let counted : t ≡ totals_with (totals_of log) (stored_of term row) = of ∙ totals_of_more log (stored_of term row) in
+    let entries : length log + 1 - 1 ≡ length log = omega arith in
+    let requests : requests_of log + cond (is_request row.kind) 1 0 - cond (is_request row.kind) 1 0 ≡ requests_of log = omega arith in
+    let bytes : body_bytes_of log + length row.body - length row.body ≡ body_bytes_of log = omega arith in
+    ap (λ u. totals_without u row before) counted ∙ (λ k. record { entries = entries k; last_term = last k; requests = requests k; body_bytes = bytes k })

@@ -1,6 +1,6 @@
 -- A log by its steps, and as a whole.
-use Rattle.std.proofs.Common.{◌≡◌, ℕ, zero, suc, ◌+◌, ◌<◌, ◌≤◌, List, ◌++◌, length, take, get_or, ap, sym, ◌∙◌, inl, inr, arith, add-one, length-append}
-use Rattle.std.specs.Prelude.{true, false}
+use Rattle.std.proofs.Common.{◌≡◌, ℕ, zero, suc, ◌+◌, ◌<◌, ◌≤◌, List, ◌++◌, length, take, get_or, ◌-◌, ap, sym, ◌∙◌, refl, inl, inr, arith, add-one, length-append}
+use Rattle.std.specs.Prelude.{true, false, ◌==◌}
 use Rattle.std.proofs.Math.Seq.{take-append-add}
 use Rattle.std.proofs.lemmas.Bool.{cases_Bool, and_parts, false≢true}
 use Rattle.std.proofs.lemmas.List.{take_more, length-take-le, get_or-take, get_or_default, get_or-append-add}
@@ -11,7 +11,7 @@ use Rattle.r2_base.specs.Entry.{is_request}
 use Rattle.r2_base.specs.Names.{same_rid}
 use Rattle.r2_base.proofs.SameNames.{same_rid-true, same_rid-same}
 use Rattle.hc_log.specs.declared.stored.Stored.{Stored}
-use Rattle.hc_log.specs.Log.{last_term, asks_as, stands_in, FollowEach, IsLog}
+use Rattle.hc_log.specs.Log.{blank_of, term_at, last_term, asks_as, stands_in, FollowEach, IsLog}
 use Rattle.hc_log.specs.Laws.{AreApart, IsFormed}
 use Rattle.hc_log.proofs.Counting.{IsWithinLimits-take, last_term_more}
 use Rattle.hc_log.proofs.Logs.{IsLog-limits}
@@ -20,6 +20,16 @@ use Rattle.hc_log.proofs.Logs.{IsLog-limits}
 last_term-take : (log : List Stored) (i : ℕ) (d : Stored) → i < length log → last_term (take (i + 1) log) ≡ (get_or log i d).entry.term
 last_term-take log i d h =
     ap last_term (take_more log i d h) ∙ last_term_more (take i log) (get_or log i d)
+
+-- it is the term at their number
+pub last_term-first : (log : List Stored) (n : ℕ) → n ≤ length log → last_term (take n log) ≡ term_at log n
+last_term-first log zero h = refl
+last_term-first log (suc k) h =
+    let step : take (suc k) log ≡ take (k + 1) log = ap (λ n. take n log) (sym (add-one k)) in
+    let some : (suc k == 0) ≡ false = grind arith in
+    let place : suc k - 1 ≡ k = omega arith in
+    let there : term_at log (suc k) ≡ (get_or log k (blank_of 0)).entry.term = rw (some, place) refl in
+    ap last_term step ∙ last_term-take log k (blank_of 0) h ∙ sym there
 
 -- a request that a log has at a place
 stands_at : (log : List Stored) (j i : ℕ) (d : Stored) (rid : Rid) → j < i → i ≤ length log → is_request (get_or log j d).entry.kind ≡ true → (get_or log j d).entry.rid ≡ rid

@@ -1,7 +1,11 @@
+pub mod Counting
+pub mod Logs
+pub mod Terms
+pub mod Rows
+pub mod Standing
+pub mod Kept
+pub mod Formed
+pub mod Replays
 pub mod Changes
 pub mod CheckedEntries
-pub mod Counting
-pub mod Formed
-pub mod Logs
-pub mod Replays
 pub mod Rooms

@@ -1,6 +1,6 @@
 -- Logs that grow, that are cut, and that are joined.
-use Rattle.std.proofs.Common.{◌≡◌, ℕ, ◌+◌, ◌-◌, ◌<◌, ◌≤◌, List, [], ◌∷◌, ◌++◌, length, map, min, take, drop, get_or, ap, sym, ◌∙◌, refl, inl, inr, ltb, Some, None, arith, length-append}
-use Rattle.std.specs.Prelude.{◌||◌, Bool, true, false, is_some}
+use Rattle.std.proofs.Common.{◌≡◌, ℕ, ◌+◌, ◌-◌, ◌<◌, ◌≤◌, List, [], ◌∷◌, ◌++◌, length, map, min, take, drop, get_or, ap, sym, ◌∙◌, refl, inl, inr, ltb, arith, length-append, length-drop}
+use Rattle.std.specs.Prelude.{◌||◌, Bool, is_some}
 use Rattle.std.specs.List.{position, position_or_len, list_any}
 use Rattle.std.proofs.lemmas.List.Sums.{fails_before_first, passes_at_first}
 use Rattle.std.specs.List.{All}
@@ -9,10 +9,10 @@ use Rattle.std.proofs.lemmas.List.Folds.{list_any-append, list_any_at, list_any_
 use Rattle.r2_base.specs.declared.rid.Rid.{Rid}
 use Rattle.std.proofs.Math.Seq.{take-append-add}
 use Rattle.std.proofs.lemmas.Bool.{cases_Bool, cases_lt, ltb-true, ltb-false}
-use Rattle.std.proofs.lemmas.List.{take_more, take_all, take-take, take_at, take-append-le, get_or_push, get_or-take, get_or_append_left, get_or-append-add, length_push, length-take, take_min, take-map, drop-map}
+use Rattle.std.proofs.lemmas.List.{take_more, take_all, take-take, take_at, take-append-le, get_or_push, get_or-take, get_or-drop, get_or_append_left, get_or-append-add, length_push, length-take, take_min, take-map, drop-map, map-append}
 use Rattle.hc_log.specs.declared.stored.Stored.{Stored}
 use Rattle.hc_log.proofs.Counting.{IsWithinLimits-none}
-use Rattle.hc_log.specs.Log.{IsWithinLimits, MayFollow, FollowEach, IsLog, metas_of, asks_as, stands_in}
+use Rattle.hc_log.specs.Log.{IsWithinLimits, MayFollow, FollowEach, IsLog, metas_of, asks_as, stands_in, blank_of, stored_at}
 
 -- no entries follow any log
 pub FollowEach-none : (log : List Stored) → FollowEach log []
@@ -86,6 +86,19 @@ metas_of-slice log k most =
     ∙ sym (take-map bare most (drop k log))
     ∙ ap (take most) (sym (drop-map bare k log))
 
+-- one entry more of them
+pub metas_of-more : (log : List Stored) (from n : ℕ) → 1 ≤ from → from - 1 + n < length log
+    → metas_of (take (n + 1) (drop (from - 1) log)) ≡ metas_of (take n (drop (from - 1) log)) ++ (stored_at log (from + n)).entry ∷ []
+metas_of-more log from n first within =
+    let bare = λ (s : Stored). s.entry in
+    let rest = drop (from - 1) log in
+    let inside : n < length rest = omega (arith, within, length-drop (from - 1) log) in
+    let place : from - 1 + n ≡ from + n - 1 = omega (arith, first) in
+    let read : get_or rest n (blank_of 0) ≡ stored_at log (from + n) = get_or-drop (from - 1) log n (blank_of 0) ∙ ap (λ i. get_or log i (blank_of 0)) place in
+    ap (map bare) (take_more rest n (blank_of 0) inside)
+    ∙ map-append bare (take n rest) (get_or rest n (blank_of 0) ∷ [])
+    ∙ ap (λ s. metas_of (take n rest) ++ s.entry ∷ []) read
+
 -- a request is in two lists, one after the other, where it is in one of them
 pub stands_in_both : (rid : Rid) (xs ys : List Stored) → stands_in rid (xs ++ ys) ≡ (stands_in rid xs || stands_in rid ys)
 unfolding stands_in
@@ -103,7 +116,7 @@ partway-terms t log entries keep i old new =
     All-append P (take keep log) (take i entries) (All-take P keep log old) (All-take P i entries new)
 
 -- a place is found exactly where one of the items passes
-is_some-position : {X : Type 0} (p : X → Bool) (xs : List X) → is_some (position p xs) ≡ list_any p xs
+pub is_some-position : {X : Type 0} (p : X → Bool) (xs : List X) → is_some (position p xs) ≡ list_any p xs
 is_some-position p [] = refl
 is_some-position p (x ∷ xs) =
     elim (cases_Bool (ltb (position_or_len p (x ∷ xs)) (length (x ∷ xs)))) [
@@ -114,12 +127,3 @@ is_some-position p (x ∷ xs) =
           let past = ltb-false (position_or_len p (x ∷ xs)) (length (x ∷ xs)) f in
           rw f (sym (list_any_none p (x ∷ xs) (λ k d h. fails_before_first p (x ∷ xs) k d (omega arith))))
     ]
-
--- a request that has a place is in the log, and one that has none isn't
-pub stands-from_None : (rid : Rid) (log : List Stored) → position (asks_as rid) log ≡ None → false ≡ stands_in rid log
-unfolding stands_in
-stands-from_None rid log none = ap is_some (sym none) ∙ is_some-position (asks_as rid) log
-
-pub stands-from_Some : (rid : Rid) (log : List Stored) (i : ℕ) → position (asks_as rid) log ≡ Some i → true ≡ stands_in rid log
-unfolding stands_in
-stands-from_Some rid log i some = ap is_some (sym some) ∙ is_some-position (asks_as rid) log

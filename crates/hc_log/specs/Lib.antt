@@ -1,6 +1,10 @@
 pub mod Ranges
 pub mod Log
+pub mod Runs
+pub mod Rows
+pub mod Places
 pub mod Totals
+pub mod Kept
 pub mod Durable
 pub mod Faults
 pub mod Laws

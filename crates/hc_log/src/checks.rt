@@ -1,5 +1,5 @@
 //! The tests of a record that is to be the next one of a durable state.
-ghost use Rattle.std.specs.Prelude.{◌≡◌, ◌+◌, ◌<◌, ◌≤◌, ◌^◌, ◌↔◌, ◌&&◌, ◌++◌, All, IsTrue, IfSome};
+ghost use Rattle.std.specs.Prelude.{◌≡◌, ◌+◌, ◌<◌, ◌≤◌, ◌^◌, ◌↔◌, ◌&&◌, ◌++◌, length, take, All, IsTrue, IfSome};
 ghost use Rattle.r2_base.specs.Entry.{is_request, NamesReplier};
 ghost use Rattle.r2_base.specs.Limits.{greatest_member, greatest_number};
 ghost use Rattle.hc_log.specs.Ranges.{FitsKind, IsStored, most_body_bytes, most_requests};
@@ -10,7 +10,7 @@ ghost use Rattle.hc_log.specs.Durable.{KeepsVote, IsNext};
 use crate::entry_list::any_asks_as;
 use crate::limits::{MOST_BODY_BYTES, MOST_REQUESTS};
 use crate::totals::Totals;
-use crate::{Record, Stored};
+use crate::{Log, Record, Stored};
 use r2_base::{
     GREATEST_MEMBER, GREATEST_NUMBER, Kind, MOST_BODY, MOST_ENTRIES, NO_REPLIER, is_no_rid,
     is_request,
@@ -70,22 +70,22 @@ fn is_within_limits(totals: Totals) -> bool
         && totals.body_bytes <= MOST_BODY_BYTES
 }
 
-/// Whether the request of an entry is among these already.
+/// Whether the request of an entry is among the first `keep` of a log or among these already.
 #[tactic(auto, using(crate::proofs::Logs::stands_in_both))]
-fn asks_again(kept: &[Stored], before: &[Stored], s: &Stored) -> bool
-    ensures { result ≡ (is_request s.now.entry.kind && stands_in s.now.entry.rid (kept.now ++ before.now)) }
+fn asks_again(log: &Log, keep: u64, before: &[Stored], s: &Stored) -> bool
+    ensures { result ≡ (is_request s.now.entry.kind && stands_in s.now.entry.rid (take keep log.now ++ before.now)) }
 {
     if !is_request(s.entry.kind) {
         return false;
     }
-    any_asks_as(kept, &s.entry.rid) || any_asks_as(before, &s.entry.rid)
+    log.stands_within(keep, &s.entry.rid) || any_asks_as(before, &s.entry.rid)
 }
 
-/// Whether an entry may follow these, of which the totals are known.
-fn may_follow(kept: &[Stored], before: &[Stored], totals: Totals, s: &Stored) -> bool
-    requires totals { totals ≡ totals_of (kept.now ++ before.now) }
-    requires limits { IsWithinLimits (kept.now ++ before.now) }
-    ensures { IsTrue result ↔ MayFollow (kept.now ++ before.now) s.now }
+/// Whether an entry may follow the first `keep` of a log and these, of which the totals are known.
+fn may_follow(log: &Log, keep: u64, before: &[Stored], totals: Totals, s: &Stored) -> bool
+    requires totals { totals ≡ totals_of (take keep log.now ++ before.now) }
+    requires limits { IsWithinLimits (take keep log.now ++ before.now) }
+    ensures { IsTrue result ↔ MayFollow (take keep log.now ++ before.now) s.now }
 {
     if !is_stored(s) {
         return false;
@@ -93,20 +93,21 @@ fn may_follow(kept: &[Stored], before: &[Stored], totals: Totals, s: &Stored) ->
     if s.entry.term < totals.last_term {
         return false;
     }
-    if asks_again(kept, before, s) {
+    if asks_again(log, keep, before, s) {
         return false;
     }
     is_within_limits(totals.with(s))
 }
 
-/// Whether each of the entries may follow the kept ones and those before it.
-fn follow_each(kept: &[Stored], entries: &[Stored]) -> bool
-    requires { IsWithinLimits kept.now }
-    ensures { IsTrue result ↔ FollowEach kept.now entries.now }
+/// Whether each of the entries may follow the first `keep` of a log and those before it.
+fn follow_each(log: &Log, keep: u64, entries: &[Stored]) -> bool
+    requires keep { keep ≤ length log.now }
+    requires limits { IsWithinLimits (take keep log.now) }
+    ensures { IsTrue result ↔ FollowEach (take keep log.now) entries.now }
 {
-    let mut totals = Totals::of(kept);
+    let mut totals = log.totals_to(keep);
     'entries: for (i, s) in entries.iter().enumerate() {
-        if !may_follow(kept, &entries[..i], totals, s) {
+        if !may_follow(log, keep, &entries[..i], totals, s) {
             return false;
         }
         totals = totals.with(s);
@@ -137,7 +138,7 @@ fn continues(term: u64, vote: Option<u8>, r: &Record) -> bool
 }
 
 /// Whether the record may be the next one of the durable state of these parts.
-pub(crate) fn may_be_next(term: u64, vote: Option<u8>, log: &[Stored], r: &Record) -> bool
+pub(crate) fn may_be_next(term: u64, vote: Option<u8>, log: &Log, r: &Record) -> bool
     requires { IsLog log.now }
     ensures { IsTrue result ↔ IsNext (record { term = term; vote = vote; log = log.now }) r.now }
 {
@@ -150,7 +151,7 @@ pub(crate) fn may_be_next(term: u64, vote: Option<u8>, log: &[Stored], r: &Recor
     if !continues(term, vote, r) {
         return false;
     }
-    if r.keep > log.len() as u64 {
+    if r.keep > log.last() {
         return false;
     }
     if r.entries.len() > usize::from(MOST_ENTRIES) {
@@ -159,5 +160,5 @@ pub(crate) fn may_be_next(term: u64, vote: Option<u8>, log: &[Stored], r: &Recor
     if !have_terms_up_to(r.entries.as_slice(), r.term) {
         return false;
     }
-    follow_each(&log[..r.keep as usize], r.entries.as_slice())
+    follow_each(log, r.keep, r.entries.as_slice())
 }

@@ -120,7 +120,7 @@ impl Durable {
         ensures unchanged { result ≡ Err FollowFault.Unfit → self.new ≡ self.old }
         ensures memory { result ≡ Err FollowFault.Memory → self.new.whole ≡ false }
     {
-        if !may_be_next(self.term, self.vote, self.log.as_slice(), r) {
+        if !may_be_next(self.term, self.vote, &self.log, r) {
             return Err(FollowFault::Unfit);
         }
         self.term = r.term;

@@ -1,12 +1,11 @@
-//! What a log reads of its entries.
-ghost use Rattle.std.specs.Prelude.{◌≡◌, ◌+◌, ◌-◌, ◌≤◌, ◌&&◌, IfOk, position};
+//! Whether a request is among the entries of a record.
+ghost use Rattle.std.specs.Prelude.{◌≡◌, ◌&&◌};
 ghost use Rattle.r2_base.specs.Entry.{is_request};
 ghost use Rattle.r2_base.specs.Names.{same_rid};
-ghost use Rattle.hc_log.specs.Log.{asks_as, stands_in, metas_of};
+ghost use Rattle.hc_log.specs.Log.{asks_as, stands_in};
 
 use crate::Stored;
-use r2_base::{Duplicate, Entry, NoMemory, Rid, is_request};
-use std::alloc::Global;
+use r2_base::{Rid, is_request};
 
 /// Whether an entry is of the request with this id.
 fn asks_as(s: &Stored, rid: &Rid) -> bool
@@ -15,39 +14,10 @@ fn asks_as(s: &Stored, rid: &Rid) -> bool
     is_request(s.entry.kind) && *rid == s.entry.rid
 }
 
-/// How many entries come before the first that is of the request with this id.
-pub(crate) fn position_of(entries: &[Stored], rid: &Rid) -> Option<usize>
-    ensures { result ≡ position (asks_as rid.now) entries.now }
-{
-    entries.iter().position(|s| asks_as(s, rid))
-}
-
 /// Whether the request with this id is among the entries.
 #[tactic(auto, unfolding(crate::specs::Log::stands_in))]
 pub(crate) fn any_asks_as(entries: &[Stored], rid: &Rid) -> bool
     ensures { result ≡ stands_in rid.now entries.now }
 {
     entries.iter().any(|s| asks_as(s, rid))
-}
-
-/// The entries without their bodies.
-pub(crate) fn metas_of(alloc: Global, entries: &[Stored]) -> Result<Vec<Entry>, NoMemory>
-    ensures { IfOk result (λ v. v.items ≡ metas_of entries.now) }
-{
-    let mut metas = Vec::with_capacity(alloc, entries.len())?;
-    'entries: for s in entries {
-        metas.push(s.entry)?;
-    }
-    Ok(metas)
-}
-
-/// Copies of the entries with their bodies.
-pub(crate) fn copies_of(alloc: Global, entries: &[Stored]) -> Result<Vec<Stored>, NoMemory>
-    ensures { IfOk result (λ v. v.items ≡ entries.now) }
-{
-    let mut copies = Vec::with_capacity(alloc, entries.len())?;
-    'entries: for s in entries {
-        copies.push(s.duplicate(alloc)?)?;
-    }
-    Ok(copies)
 }

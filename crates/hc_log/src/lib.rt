@@ -8,7 +8,12 @@ mod follow_fault;
 pub mod laws;
 mod limits;
 mod log;
+mod places;
+#[cfg(test)]
+mod plain;
 mod record;
+mod row;
+mod runs;
 mod stored;
 #[cfg(test)]
 mod tests;

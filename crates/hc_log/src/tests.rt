@@ -1,19 +1,19 @@
-ghost use Rattle.std.specs.Prelude.{◌≡◌, ◌≤◌, true, IfOk};
+ghost use Rattle.std.specs.Prelude.{◌≡◌, ◌<◌, ◌≤◌, true, IfOk};
 
-use crate::{Durable, Entries, FollowFault, Record, Stored};
+use crate::{Durable, Entries, FollowFault, Log, Record, Stored};
 use r2_base::{Addr, Bytes, Entry, Kind, NoMemory, Rid};
 use std::alloc::Global;
 use std::test::Fail;
 
 /// An entry: its term, its kind, the number in its request id, its replier, and how many bytes its body has.
-type Line = (u64, Kind, u16, u8, usize);
+pub(crate) type Line = (u64, Kind, u16, u8, usize);
 
 const BLANK: Line = (1, Kind::Blank, 0, 255, 0);
 
 /// A blank entry of term 1, and two requests with the numbers 1 and 2.
 const FIRST: [Line; 3] = [BLANK, (1, Kind::Write, 1, 0, 4), (1, Kind::Read, 2, 6, 0)];
 
-fn rid(id: u16) -> Rid {
+pub(crate) fn rid(id: u16) -> Rid {
     let ip = if id == 0 { 0 } else { 0x0a00_0009 };
     let port = if id == 0 { 0 } else { 7_001 };
     Rid {
@@ -35,7 +35,7 @@ fn stored(alloc: Global, line: &Line) -> Result<Stored, NoMemory> {
     })
 }
 
-fn record(
+pub(crate) fn record(
     alloc: Global,
     term: u64,
     vote: Option<u8>,
@@ -139,13 +139,34 @@ fn other_records_are_unfit(rt: HostRuntime) -> Result<(), Fail> {
     Ok(())
 }
 
+/// The id of one of many requests.
+fn many(n: u32) -> Rid
+    requires { n < 16777216 }
+{
+    let client = Addr {
+        ip: 0x0a00_0000 + n / 65_536,
+        port: 7_001,
+    };
+    Rid {
+        id: (n % 65_536) as u16,
+        client,
+    }
+}
+
 /// The record of 50 writes after so many others.
-fn writes(alloc: Global, before: u16) -> Result<Record, NoMemory>
-    requires { before ≤ 10000 }
+fn writes(alloc: Global, before: u32) -> Result<Record, NoMemory>
+    requires { before ≤ 200000 }
 {
     let mut entries = Entries::new(alloc);
     for i in 0..50 {
-        entries.push(stored(alloc, &(1, Kind::Write, before + i, 0, 1))?)?;
+        let entry = Entry {
+            term: 1,
+            kind: Kind::Write,
+            rid: many(before + i),
+            replier: 0,
+        };
+        let body = Bytes::from_vec(vec![in alloc; 0x47; 1]?);
+        entries.push(Stored { entry, body })?;
     }
     Ok(Record {
         term: 1,
@@ -155,25 +176,35 @@ fn writes(alloc: Global, before: u16) -> Result<Record, NoMemory>
     })
 }
 
-/// The state after 200 records of 50 writes each.
+/// The state after 4,000 records of 50 writes each.
 fn grown(alloc: Global) -> Result<Durable, FollowFault> {
     let mut durable = Durable::begin(alloc);
-    for i in 0..200 {
+    for i in 0..4_000 {
         durable.follow(&writes(alloc, 50 * i)?)?;
     }
     Ok(durable)
 }
 
+/// The first of the requests of `grown` that isn't at its place.
+fn misplaced(log: &Log) -> Option<u32> {
+    for n in 0..200_000 {
+        if log.place_of(&many(n)) != Some(u64::from(n) + 1) {
+            return Some(n);
+        }
+    }
+    None
+}
+
 #[test]
-fn a_log_grows_to_10000_entries(rt: HostRuntime) -> Result<(), Fail> {
+fn a_log_of_200000_entries_finds_each(rt: HostRuntime) -> Result<(), Fail> {
     let durable = grown(rt.alloc())?;
     let log = durable.log();
     assert_eq!(rt;
         (log.last(), log.requests(), log.body_bytes()),
-        (10_000, 10_000, 10_000)
+        (200_000, 200_000, 200_000)
     );
-    assert_eq!(rt; log.place_of(&rid(9_999)), Some(10_000));
-    assert_eq!(rt; log.entries_after(9_990)?.len(), 10);
+    assert_eq!(rt; misplaced(log), None);
+    assert_eq!(rt; log.entries_after(199_990)?.len(), 10);
     Ok(())
 }
 

@@ -1,7 +1,8 @@
-ghost use Rattle.std.specs.Prelude.{◌≡◌, ◌+◌, ◌<◌, ◌^◌, [], ◌∷◌, ◌++◌, length};
-ghost use Rattle.hc_log.specs.Log.{IsWithinLimits};
+ghost use Rattle.std.specs.Prelude.{◌≡◌, ◌+◌, ◌<◌, ◌≤◌, ◌^◌, cond, length};
+ghost use Rattle.r2_base.specs.Entry.{is_request};
 
 use crate::Stored;
+use crate::row::Row;
 use r2_base::is_request;
 
 /// What is counted of the entries of a log, so that one more can be tested.
@@ -17,7 +18,7 @@ pub(crate) struct Totals {
 }
 
 impl Totals {
-    ghost use Rattle.hc_log.specs.Totals.{totals_of, totals_with};
+    ghost use Rattle.hc_log.specs.Totals.{totals_with, totals_without};
 
     pub(crate) const NONE: Totals = Totals {
         entries: 0,
@@ -46,15 +47,23 @@ impl Totals {
         }
     }
 
-    /// Those of all these entries.
-    pub(crate) fn of(entries: &[Stored]) -> Totals
-        requires { IsWithinLimits entries.now }
-        ensures { result ≡ totals_of entries.now }
+    /// Those of the entries without the last one, whose row is this. The one before it is of this term.
+    pub(crate) fn without(&self, row: &Row, term: u64) -> Totals
+        requires entries { 1 ≤ self.now.entries }
+        requires requests { cond (is_request row.now.kind) 1 0 ≤ self.now.requests }
+        requires body_bytes { length row.now.body ≤ self.now.body_bytes }
+        ensures { result ≡ totals_without self.now row.now term }
     {
-        let mut totals = Totals::NONE;
-        'entries: for s in entries {
-            totals = totals.with(s);
+        let requests = if is_request(row.kind) {
+            self.requests - 1
+        } else {
+            self.requests
+        };
+        Totals {
+            entries: self.entries - 1,
+            last_term: term,
+            requests,
+            body_bytes: self.body_bytes - row.body.len() as u64,
         }
-        totals
     }
 }

@@ -6,9 +6,7 @@ use Rattle.std.proofs.lemmas.List.Elements.{All-cons, All-map, All-nil}
 use Rattle.r2_base.specs.declared.addr.Addr.{Addr}
 use Rattle.r2_base.specs.declared.datagram.Datagram.{Datagram}
 use Rattle.r2_base.specs.declared.rid.Rid.{Rid}
-use Rattle.r2_header.specs.declared.packet.Packet.TheVariants.{Ordering}
-use Rattle.r2_header.specs.Header.{one_part_header, size_with, spelling}
-use Rattle.r2_header.specs.Policy.{replicated}
+use Rattle.r2_header.specs.Header.{size_with, spelling}
 use Rattle.r2_header.proofs.Spelling.{length-spelling}
 use Rattle.r2_frag.specs.declared.part_spec.PartSpec.{PartSpec}
 use Rattle.r2_frag.specs.Parts.{IsSendable, part_count, part_datagram, part_header, parts_of, piece}
@@ -16,9 +14,10 @@ use Rattle.r2_frag.specs.Replies.{reply_parts, reply_spec}
 use Rattle.r2_frag.proofs.BodyPieces.{piece-most}
 use Rattle.hc_message.specs.declared.msg.Msg.{Msg}
 use Rattle.hc_message.specs.Message.{message_bytes}
+use Rattle.hc_packet.specs.Packet.{message_datagram, message_header}
 use Rattle.hc_member.specs.Setup.{own_address}
 use Rattle.hc_member.specs.Laws.{DatagramsAreShort, most_datagram_bytes}
-use Rattle.hc_member.specs.Sending.{Tell, Recover, Reply, IsSent, datagrams_of, message_datagram, recover_spec}
+use Rattle.hc_member.specs.Sending.{Tell, Recover, Reply, IsSent, datagrams_of, recover_spec}
 
 abbrev IsShort : Datagram → Type 0
 IsShort d = length d.bytes ≤ most_datagram_bytes
@@ -47,9 +46,8 @@ parts-short spec body =
 pub datagrams_are_short : DatagramsAreShort
 unfolding datagrams_of reply_parts
 datagrams_are_short s (Tell to message) sent =
-    let header = one_part_header Ordering replicated 0 None in
-    let long = length-append (spelling header) (message_bytes message) in
-    let size = length-spelling header in
+    let long = length-append (spelling message_header) (message_bytes message) in
+    let size = length-spelling message_header in
     let few = sent.2 in
     All-cons IsShort (message_datagram (own_address s) to message) [] (omega (arith, long, size, few)) (All-nil IsShort)
 datagrams_are_short s (Recover to rid message) sent = parts-short (recover_spec (own_address s) to rid) (message_bytes message)

@@ -23,5 +23,6 @@ pub mod Settled
 pub mod Storing
 pub mod Batches
 pub mod Finished
+pub mod Progress
 pub mod Turned
 pub mod Datagrams

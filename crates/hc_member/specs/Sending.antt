@@ -1,11 +1,9 @@
 -- What a member sends, and the datagrams of each.
-use Rattle.std.specs.Prelude.{◌≤◌, true, List, [], ◌∷◌, ◌++◌, length, None, ◌≡◌, Bool, false}
+use Rattle.std.specs.Prelude.{◌≡◌, ◌≤◌, true, false, List, [], ◌∷◌, length}
 use Rattle.std.specs.List.{flat_map}
 use Rattle.r2_base.specs.declared.addr.Addr.{Addr}
 use Rattle.r2_base.specs.declared.datagram.Datagram.{Datagram}
 use Rattle.r2_base.specs.declared.rid.Rid.{Rid}
-use Rattle.r2_header.specs.declared.packet.Packet.TheVariants.{Ordering}
-use Rattle.r2_header.specs.Header.{one_part_header, spelling}
 use Rattle.r2_header.specs.Policy.{replicated}
 use Rattle.r2_frag.specs.declared.class.Class.TheVariants as class
 use Rattle.r2_frag.specs.declared.kept.KeptReply.{KeptReply}
@@ -13,9 +11,10 @@ use Rattle.r2_frag.specs.declared.part_spec.PartSpec.{PartSpec}
 use Rattle.r2_frag.specs.Parts.{body_limit, parts_of}
 use Rattle.r2_frag.specs.Replies.{IsReply, reply_parts}
 use Rattle.hc_message.specs.declared.msg.Msg.{Msg}
-use Rattle.hc_message.specs.declared.msg.Msg.TheVariants.{RecoverAsk, RecoverBody}
 use Rattle.hc_message.specs.Message.{IsValid, message_bytes}
 use Rattle.hc_message.specs.Laws.{most_order_bytes}
+use Rattle.hc_packet.specs.Laws.{is_recovery}
+use Rattle.hc_packet.specs.Packet.{message_datagram}
 use Rattle.hc_member.specs.declared.setup.Setup.{Setup}
 use Rattle.hc_member.specs.Setup.{own_address}
 
@@ -28,11 +27,6 @@ pub data Sending : Type 0 where
   -- a reply to its client
   Reply : KeptReply → Sending
 
--- a message to a member or to the aggregator, in one datagram
-abbrev pub message_datagram : Addr → Addr → Msg → Datagram
-message_datagram from to message =
-    record { from = from; to = to; bytes = spelling (one_part_header Ordering replicated 0 None) ++ message_bytes message }
-
 -- what the datagrams of a message about a body have in common
 abbrev pub recover_spec : Addr → Addr → Rid → PartSpec
 recover_spec from to rid =
@@ -43,7 +37,7 @@ recover_spec from to rid =
       extended = true;
     }
 
--- the datagrams of what is sent: here, and nowhere else, messages become bytes
+-- the datagrams of what is sent, a message to a member or to the aggregator in one: here alone what a member sends becomes bytes
 unfoldable pub datagrams_of : Setup → Sending → List Datagram
 datagrams_of s (Tell to message) = message_datagram (own_address s) to message ∷ []
 datagrams_of s (Recover to rid message) = parts_of (recover_spec (own_address s) to rid) (message_bytes message)
@@ -52,12 +46,6 @@ datagrams_of s (Reply reply) = reply_parts (own_address s) reply.rid reply.polic
 -- the datagrams of all that is sent, in order
 abbrev pub datagrams_of_all : Setup → List Sending → List Datagram
 datagrams_of_all s sends = flat_map (datagrams_of s) sends
-
--- whether a message is about a body: it is asked for, or given
-abbrev pub is_recovery : Msg → Bool
-is_recovery (RecoverAsk member) = true
-is_recovery (RecoverBody kind body) = true
-is_recovery _ = false
 
 -- what is sent is as it may be: a valid message about a body in parts for which there is room, another valid one in one datagram, or
 -- a reply

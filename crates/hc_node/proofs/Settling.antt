@@ -1,5 +1,5 @@
 -- What follows each row rests on this.
-use Rattle.std.proofs.Common.{◌≡◌, ℕ, ◌+◌, ◌-◌, ◌≤◌, List, [], ◌++◌, length, take, refl, sym, ap, subst, ◌∙◌, arith, append-nil, append_assoc}
+use Rattle.std.proofs.Common.{◌≡◌, ℕ, ◌+◌, ◌-◌, ◌≤◌, List, [], ◌++◌, length, refl, sym, ap, subst, ◌∙◌, arith, append-nil, append_assoc}
 use Rattle.std.specs.Prelude.{Result, Ok, Err, IfOk}
 use Rattle.std.proofs.lemmas.Grind.{flat_map-append}
 use Rattle.std.proofs.lemmas.List.{length-take}
@@ -13,12 +13,12 @@ use Rattle.hc_member.specs.declared.role.Role.TheVariants.{Follower, Candidate, 
 use Rattle.hc_member.specs.declared.heard.Heard.{Heard}
 use Rattle.hc_member.specs.Finish.{batched}
 use Rattle.hc_member.specs.Heard.{IsSayable, receive, with_received}
-use Rattle.hc_member.specs.Member.{Member, durable_of}
+use Rattle.hc_member.specs.Member.{Member}
 use Rattle.hc_member.specs.Outcome.{Outcome}
 use Rattle.hc_member.specs.Sending.{Sending, datagrams_of, datagrams_of_all}
 use Rattle.hc_member.specs.Setup.{IsSetup}
 use Rattle.hc_member.specs.Sound.{IsSound}
-use Rattle.hc_member.specs.Turn.{Reacted, led, ordering, reacted, reacted_to, row, settled, stored_of, waiting_of}
+use Rattle.hc_member.specs.Turn.{led, ordering, reacted, reacted_to, row, settled, stored_of, waiting_of}
 use Rattle.hc_member.proofs.Goes.{Goes}
 use Rattle.hc_member.proofs.Ordering.{may-order}
 use Rattle.hc_member.proofs.ReportRows.{leading}

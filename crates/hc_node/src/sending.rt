@@ -2,42 +2,18 @@
 ghost use Rattle.std.specs.Prelude.{◌≡◌, ◌≤◌, ◌++◌, length, map, OnOk, IfOk};
 ghost use Rattle.r2_frag.specs.Replies.{IsReply};
 ghost use Rattle.hc_message.specs.Message.{IsValid, message_bytes};
-ghost use Rattle.hc_member.specs.Sending.{Tell, Recover, Reply, IsSent, datagrams_of, datagrams_of_all, message_datagram, recover_spec};
+ghost use Rattle.hc_member.specs.Sending.{Tell, Recover, Reply, IsSent, datagrams_of, datagrams_of_all, recover_spec};
 ghost use Rattle.hc_member.specs.Setup.{IsSetup, address_of, others};
 ghost use Rattle.r2_frag.specs.declared.kept.KeptReply.{KeptReply};
 
 use crate::group::{address_of, is_other, members, own_address};
 use hc_member::Setup;
 use hc_message::Msg;
+use hc_packet::message_datagram;
 use r2_base::{Addr, Bytes, Datagram, NoMemory, Rid};
 use r2_frag::{Class, Key, PartSpec, parts, reply_parts};
 use r2_header::policy::REPLICATED;
-use r2_header::{HEADER_ROOM, Packet, one_part_header};
 use std::alloc::Global;
-
-/// The datagram of a message to a member or to the aggregator.
-fn message_datagram(
-    alloc: Global,
-    from: Addr,
-    to: Addr,
-    message: &Msg,
-) -> Result<Datagram, NoMemory>
-    requires { IsValid message.now }
-    ensures { IfOk result (λ d. d ≡ message_datagram from to message.now) }
-{
-    let header = one_part_header(Packet::Ordering, REPLICATED, 0, None);
-    let mut room = [0; HEADER_ROOM];
-    let size = r2_header::write(&header, &mut room);
-    let message = hc_message::write(alloc, message)?;
-    let mut bytes = Vec::with_capacity(alloc, size + message.len())?;
-    bytes.extend_from_slice(&room[..size])?;
-    bytes.extend_from_slice(message.as_slice())?;
-    Ok(Datagram {
-        from,
-        to,
-        bytes: Bytes::from_vec(bytes),
-    })
-}
 
 /// Puts a message to a member or to the aggregator after what is sent.
 #[tactic(auto, unfolding(hc_member::specs::Sending::datagrams_of))]

@@ -32,7 +32,7 @@ found_request rid pool r found =
 
 module _ {X : Type 0} (p : X → Bool) where
   -- nothing passes the test, so nothing is left out
-  filter-none : (xs : List X) → ((k : ℕ) (d : X) → k < length xs → p (get_or xs k d) ≡ false) → filter (λ x. not (p x)) xs ≡ xs
+  pub filter-none : (xs : List X) → ((k : ℕ) (d : X) → k < length xs → p (get_or xs k d) ≡ false) → filter (λ x. not (p x)) xs ≡ xs
   filter-none [] fails = refl
   filter-none (x ∷ xs) fails =
       let first : p x ≡ false = fails 0 x (omega arith) in
@@ -140,7 +140,7 @@ IsPool-remove pool i h sound =
     }
 
 -- a request is found exactly where one waits
-found_waits : (rid : Rid) (pool : List Request) → is_some (request_of rid pool) ≡ waits_in rid pool
+pub found_waits : (rid : Rid) (pool : List Request) → is_some (request_of rid pool) ≡ waits_in rid pool
 unfolding request_of waits_in
 found_waits rid [] = refl
 found_waits rid (x ∷ xs) =

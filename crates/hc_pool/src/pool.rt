@@ -4,6 +4,7 @@ ghost use Rattle.hc_pool.specs.Pool.{has_rid, waits_in, request_of, without, old
 ghost use Rattle.r2_base.specs.Limits.{most_body};
 
 use crate::{PutFault, Request};
+use indexmap::IndexMap;
 use r2_base::{Bytes, Kind, NoMemory, Rid};
 use std::alloc::Global;
 use std::marker::Model;
@@ -14,21 +15,27 @@ pub const MOST_POOLED: usize = 4_096;
 /// The requests that came and aren't ordered yet, the one put first at the beginning (HovercRaft, on separating the
 /// replication of requests from their order). Each is a Write or a Read, its body has at most `MOST_BODY` bytes, and no
 /// request id is held twice.
+///
+/// A request is looked up by its id in the same time however many wait. To take one out moves those after it up, so it
+/// takes longer the more there are.
 #[derive(Debug, Drop)]
 pub struct Pool {
-    requests: Vec<Request>,
+    /// Each request under its id, in the order in which they were put.
+    requests: IndexMap<Rid, Request>,
 }
 
 impl Model for Pool {
     ghost use Rattle.std.specs.Prelude.{List};
     ghost use Rattle.hc_pool.specs.declared.request.Request.{Request};
+    ghost use Rattle.indexmap.specs.IndexMap.{values};
     ghost use Rattle.hc_pool.specs.Pool.{IsPool};
+    ghost use Rattle.hc_pool.specs.Keys.{AreUnderTheirIds};
 
     ghost Value = { List Request };
 
-    ghost view = { λ a. a.requests.items };
+    ghost view = { λ a. values a.requests };
 
-    ghost invariant = { λ a. IsPool a.requests.items };
+    ghost invariant = { λ a. IsPool (values a.requests) × AreUnderTheirIds a.requests.entries };
 }
 
 impl Pool {
@@ -37,7 +44,7 @@ impl Pool {
         ensures { result ≡ [] }
     {
         Pool {
-            requests: Vec::new(alloc),
+            requests: IndexMap::new(alloc),
         }
     }
 
@@ -55,12 +62,11 @@ impl Pool {
     }
 
     /// The kind and the body of the request with this id.
-    #[tactic(auto, using(crate::proofs::Requests::found_request))]
     pub fn get(&self, rid: &Rid) -> Option<(Kind, &Bytes)>
         ensures request { MatchOption result (request_of rid.now self.now ≡ None) (λ p. request_of rid.now self.now ≡ Some (record { rid = rid.now; kind = p.0; body = p.1.now })) }
         ensures waits { is_some result ≡ waits_in rid.now self.now }
     {
-        match find_request(self.requests.as_slice(), rid) {
+        match self.requests.get(rid) {
             None => None,
             Some(request) => Some((request.kind, &request.body)),
         }
@@ -70,7 +76,7 @@ impl Pool {
     pub fn oldest(&self) -> Option<Rid>
         ensures { result ≡ oldest_of self.now }
     {
-        let request = self.requests.first()?;
+        let request = self.first()?;
         Some(request.rid)
     }
 
@@ -78,7 +84,8 @@ impl Pool {
     pub fn first(&self) -> Option<&Request>
         ensures { MatchOption result (self.now ≡ []) (λ r. slice_get self.now 0 ≡ Some r.now) }
     {
-        self.requests.first()
+        let (_, request) = self.requests.first()?;
+        Some(request)
     }
 
     /// Takes out the request that was put first. The order of the others stays.
@@ -87,10 +94,8 @@ impl Pool {
         ensures fits { IfSome result MayWait }
         ensures once { IfSome result (λ r. waits_in r.rid self.new ≡ false) }
     {
-        if self.requests.is_empty() {
-            return None;
-        }
-        Some(self.requests.remove(0))
+        let (_, request) = self.requests.shift_remove_index(0)?;
+        Some(request)
     }
 
     /// Puts a client's request after the others, if fewer than `MOST_POOLED` wait.
@@ -117,7 +122,7 @@ impl Pool {
         ensures ok { OnOk result (self.new ≡ self.old ++ (record { rid = rid; kind = kind; body = body }) ∷ []) }
         ensures err { OnErr result (self.new ≡ self.old) }
     {
-        self.requests.push(Request { rid, kind, body })?;
+        self.requests.insert(rid, Request { rid, kind, body })?;
         Ok(())
     }
 
@@ -127,27 +132,11 @@ impl Pool {
         ensures fits { IfSome result (λ p. MayWait (record { rid = rid.now; kind = p.0; body = p.1 })) }
         ensures others { self.new ≡ without rid.now self.old }
     {
-        match place_of(self.requests.as_slice(), rid) {
-            None => None,
-            Some(place) => {
-                let Request { rid: _, kind, body } = self.requests.remove(place);
-                Some((kind, body))
-            }
-        }
+        let Some(request) = self.requests.shift_remove(rid) else {
+            return None;
+        };
+        Some((request.kind, request.body))
     }
-}
-
-#[tactic(auto, unfolding(crate::specs::Pool::request_of))]
-fn find_request<'a>(requests: &'a [Request], rid: &Rid) -> Option<&'a Request>
-    ensures { option_copied result ≡ request_of rid.now requests.now }
-{
-    requests.iter().find(|request| request.rid == *rid)
-}
-
-fn place_of(requests: &[Request], rid: &Rid) -> Option<usize>
-    ensures { result ≡ position (has_rid rid.now) requests.now }
-{
-    requests.iter().position(|request| request.rid == *rid)
 }
 
 #[cfg(test)]

@@ -5,11 +5,11 @@ use Rattle.clap.specs.Words.{Row}
 use Rattle.clap.proofs.OnLiterals.{clap_on_literals}
 use Rattle.r2_base.specs.declared.addr.Addr.{Addr}
 use Rattle.hc_text.specs.declared.command_name.CommandName.{CommandName}
-use Rattle.hc_text.specs.declared.command_name.CommandName.TheVariants.{Router, Server, Client, Replay}
+use Rattle.hc_text.specs.declared.command_name.CommandName.TheVariants.{Router, Aggregator, Server, Client, Replay}
 use Rattle.hc_text.specs.declared.meant.Meant.{Meant}
 use Rattle.hc_text.specs.declared.meant.Meant.TheVariants as meant
 use Rattle.hc_text.specs.declared.policy.Policy.{Policy}
-use Rattle.hc_text.specs.Commands.{client_command, command_of, replay_command, router_command, server_command, word_of}
+use Rattle.hc_text.specs.Commands.{aggregator_command, client_command, command_of, replay_command, router_command, server_command, word_of}
 use Rattle.hc_text.specs.Options.{AreTaken, IsSimpleCommand, rows_of_words}
 use Rattle.hc_text.specs.Words.{Means, Says, name_of}
 use Rattle.hc_text.proofs.Somes.{some_same}
@@ -17,15 +17,17 @@ use Rattle.hc_text.proofs.Somes.{some_same}
 -- ---- each command
 
 pub is_simple : (name : CommandName) → IsSimpleCommand (command_of name)
-unfolding router_command server_command client_command replay_command clap_on_literals
+unfolding router_command aggregator_command server_command client_command replay_command clap_on_literals
 is_simple Router = record { simple = refl; free = refl }
+is_simple Aggregator = record { simple = refl; free = refl }
 is_simple Server = record { simple = refl; free = refl }
 is_simple Client = record { simple = refl; free = refl }
 is_simple Replay = record { simple = refl; free = refl }
 
 pub named : (name : CommandName) → (command_of name).top.name ≡ word_of name
-unfolding router_command server_command client_command replay_command
+unfolding router_command aggregator_command server_command client_command replay_command
 named Router = refl
+named Aggregator = refl
 named Server = refl
 named Client = refl
 named Replay = refl
@@ -35,11 +37,12 @@ letter : List ℕ → ℕ
 letter word = get_or word 2 0
 
 picked : ℕ → CommandName
-picked n = if n == 117 then Router else (if n == 114 then Server else (if n == 105 then Client else Replay))
+picked n = if n == 117 then Router else (if n == 103 then Aggregator else (if n == 114 then Server else (if n == 105 then Client else Replay)))
 
 picked-letter : (name : CommandName) → picked (letter (word_of name)) ≡ name
 unfolding letter picked
 picked-letter Router = refl
+picked-letter Aggregator = refl
 picked-letter Server = refl
 picked-letter Client = refl
 picked-letter Replay = refl
@@ -51,12 +54,14 @@ same_name a b same = sym (picked-letter a) ∙ ap (λ word. picked (letter word)
 
 abbrev pub Fields : CommandName → Type 0
 Fields Router = Addr × List Addr × ℕ × ℕ × ℕ × ℕ
+Fields Aggregator = Addr × List Addr × ℕ
 Fields Server = Addr × Option Addr × ℕ × ℕ
 Fields Client = Addr × List Addr × Policy × ℕ × ℕ × ℕ × ℕ
 Fields Replay = List Addr × ℕ × Option Addr × List ℕ × ℕ
 
 abbrev pub made : (name : CommandName) → Fields name → Meant
 made Router (listen, servers, n, workers, tick_ms, turns) = meant.Router listen servers n workers tick_ms turns
+made Aggregator (listen, members, turns) = meant.Aggregator listen members turns
 made Server (listen, router, tick_ms, turns) = meant.Server listen router tick_ms turns
 made Client (listen, to, policy, wait, tries, tick_ms, turns) = meant.Client listen to policy wait tries tick_ms turns
 made Replay (members, me, aggregator, bounds, election) = meant.Replay members me aggregator bounds election
@@ -68,6 +73,7 @@ pub record IsOf (name : CommandName) (m : Meant) : Type 0 where
 
 of_own : (m : Meant) → IsOf (name_of m) m
 of_own (meant.Router listen servers n workers tick_ms turns) = record { fields = (listen, servers, n, workers, tick_ms, turns); is = refl }
+of_own (meant.Aggregator listen members turns) = record { fields = (listen, members, turns); is = refl }
 of_own (meant.Server listen router tick_ms turns) = record { fields = (listen, router, tick_ms, turns); is = refl }
 of_own (meant.Client listen to policy wait tries tick_ms turns) = record { fields = (listen, to, policy, wait, tries, tick_ms, turns); is = refl }
 of_own (meant.Replay members me aggregator bounds election) = record { fields = (members, me, aggregator, bounds, election); is = refl }

@@ -7,7 +7,7 @@ use Rattle.r2_base.specs.Addr.{IsAddrText}
 use Rattle.cmd_script.specs.declared.text_fault.TextFault.{TextFault}
 use Rattle.cmd_script.specs.declared.text_fault.TextFault.TheVariants.{Outside, Memory}
 use Rattle.hc_text.specs.declared.command_name.CommandName.{CommandName}
-use Rattle.hc_text.specs.declared.command_name.CommandName.TheVariants.{Router, Server, Client, Replay}
+use Rattle.hc_text.specs.declared.command_name.CommandName.TheVariants.{Router, Aggregator, Server, Client, Replay}
 use Rattle.hc_text.specs.declared.meant.Meant.{Meant}
 use Rattle.hc_text.specs.declared.meant.Meant.TheVariants as meant
 use Rattle.hc_text.specs.declared.policy.Policy.{Policy}
@@ -70,6 +70,11 @@ says_one Router rows (listen, servers, n, workers, tick_ms, turns) (listen', ser
     let e = number_same _ _ rows _ tick_ms tick_ms' (omega arith) one.ticks other.ticks in
     let f = number_same _ _ rows _ turns turns' (omega arith) one.ends other.ends in
     λ i. meant.Router (a i) (b i) (c i) (d i) (e i) (f i)
+says_one Aggregator rows (listen, members, turns) (listen', members', turns') one other =
+    let a = addr_same rows _ listen listen' one.listens other.listens in
+    let b = addrs_same _ rows _ members members' one.group other.group in
+    let c = number_same _ _ rows _ turns turns' (omega arith) one.ends other.ends in
+    λ i. meant.Aggregator (a i) (b i) (c i)
 says_one Server rows (listen, router, tick_ms, turns) (listen', router', tick_ms', turns') one other =
     let a = addr_same rows _ listen listen' one.listens other.listens in
     let b = maybe_same rows (codes "router") router router' one.routed other.routed in

@@ -2,12 +2,13 @@
 use Rattle.std.specs.Prelude.{ℕ, List, [], ◌∷◌, codes}
 use Rattle.clap.specs.Words.{App}
 use Rattle.hc_text.specs.declared.command_name.CommandName.{CommandName}
-use Rattle.hc_text.specs.declared.command_name.CommandName.TheVariants.{Router, Server, Client, Replay}
+use Rattle.hc_text.specs.declared.command_name.CommandName.TheVariants.{Router, Aggregator, Server, Client, Replay}
 use Rattle.hc_text.specs.Options.{command_with, defaulted, optional, required}
 
 -- the word that picks a command
 abbrev pub word_of : CommandName → List ℕ
 word_of Router = codes "router"
+word_of Aggregator = codes "aggregator"
 word_of Server = codes "server"
 word_of Client = codes "client"
 word_of Replay = codes "replay"
@@ -20,6 +21,14 @@ router_command =
     ∷ defaulted (codes "n") (codes "2")
     ∷ defaulted (codes "workers") (codes "1")
     ∷ defaulted (codes "tick-ms") (codes "100")
+    ∷ defaulted (codes "turns") (codes "72057594037927936")
+    ∷ [])
+
+unfoldable pub aggregator_command : App
+aggregator_command =
+    command_with (word_of Aggregator)
+    (required (codes "listen")
+    ∷ required (codes "members")
     ∷ defaulted (codes "turns") (codes "72057594037927936")
     ∷ [])
 
@@ -57,6 +66,7 @@ replay_command =
 -- a command with its options
 abbrev pub command_of : CommandName → App
 command_of Router = router_command
+command_of Aggregator = aggregator_command
 command_of Server = server_command
 command_of Client = client_command
 command_of Replay = replay_command

@@ -1,12 +1,12 @@
 -- What the words of a command line mean.
-use Rattle.std.specs.Prelude.{◌≢◌, ℕ, List, Option, All, IfSome, length, codes}
+use Rattle.std.specs.Prelude.{◌≢◌, ℕ, List, Option, Some, All, IfSome, length, codes}
 use Rattle.clap.specs.Words.{Row}
 use Rattle.r2_base.specs.declared.addr.Addr.{Addr}
 use Rattle.r2_base.specs.Addr.{IsAddrText}
 use Rattle.hc_text.specs.declared.command_name.CommandName.{CommandName}
 use Rattle.hc_text.specs.declared.command_name.CommandName.TheVariants as names
 use Rattle.hc_text.specs.declared.meant.Meant.{Meant}
-use Rattle.hc_text.specs.declared.meant.Meant.TheVariants.{Router, Server, Client, Replay}
+use Rattle.hc_text.specs.declared.meant.Meant.TheVariants.{Router, Aggregator, Server, Client, Replay}
 use Rattle.hc_text.specs.declared.policy.Policy.{Policy}
 use Rattle.hc_text.specs.Commands.{command_of}
 use Rattle.hc_text.specs.Options.{AreOptions, HasOption, MayHaveAddr}
@@ -14,12 +14,22 @@ use Rattle.hc_text.specs.Texts.{IsAddrList, IsBoundsText, IsMemberText, IsNumber
 
 -- ---- what the options of a command say
 
+-- the aggregator's address isn't a member's
+abbrev pub IsApart : Option Addr → List Addr → Type 0
+IsApart aggregator members = IfSome aggregator (λ a. All (λ member. member ≢ a) members)
+
 pub record SaysRouter (listen : Addr) (servers : List Addr) (n workers tick_ms turns : ℕ) (rows : List Row) : Type 0 where
   pub listens : HasOption rows (codes "listen") (IsAddrText listen)
   pub targets : HasOption rows (codes "servers") (IsAddrList 64 servers)
   pub bounded : HasOption rows (codes "n") (IsNumberText 1 16 n)
   pub works : HasOption rows (codes "workers") (IsWorkersText workers)
   pub ticks : HasOption rows (codes "tick-ms") (IsTickText tick_ms)
+  pub ends : HasOption rows (codes "turns") (IsTurnsText turns)
+
+pub record SaysAggregator (listen : Addr) (members : List Addr) (turns : ℕ) (rows : List Row) : Type 0 where
+  pub listens : HasOption rows (codes "listen") (IsAddrText listen)
+  pub group : HasOption rows (codes "members") (IsAddrList 7 members)
+  pub apart : IsApart (Some listen) members
   pub ends : HasOption rows (codes "turns") (IsTurnsText turns)
 
 pub record SaysServer (listen : Addr) (router : Option Addr) (tick_ms turns : ℕ) (rows : List Row) : Type 0 where
@@ -37,10 +47,6 @@ pub record SaysClient (listen : Addr) (to : List Addr) (policy : Policy) (wait t
   pub ticks : HasOption rows (codes "tick-ms") (IsTickText tick_ms)
   pub ends : HasOption rows (codes "turns") (IsTurnsText turns)
 
--- the aggregator's address isn't a member's
-abbrev pub IsApart : Option Addr → List Addr → Type 0
-IsApart aggregator members = IfSome aggregator (λ a. All (λ member. member ≢ a) members)
-
 pub record SaysReplay (members : List Addr) (me : ℕ) (aggregator : Option Addr) (bounds : List ℕ) (election : ℕ) (rows : List Row) : Type 0 where
   pub group : HasOption rows (codes "members") (IsAddrList 7 members)
   pub own : HasOption rows (codes "me") (IsMemberText members me)
@@ -54,6 +60,7 @@ pub record SaysReplay (members : List Addr) (me : ℕ) (aggregator : Option Addr
 -- the command of a meaning
 abbrev pub name_of : Meant → CommandName
 name_of (Router listen servers n workers tick_ms turns) = names.Router
+name_of (Aggregator listen members turns) = names.Aggregator
 name_of (Server listen router tick_ms turns) = names.Server
 name_of (Client listen to policy wait tries tick_ms turns) = names.Client
 name_of (Replay members me aggregator bounds election) = names.Replay
@@ -61,6 +68,7 @@ name_of (Replay members me aggregator bounds election) = names.Replay
 -- what its options say
 abbrev pub Says : Meant → List Row → Type 0
 Says (Router listen servers n workers tick_ms turns) = SaysRouter listen servers n workers tick_ms turns
+Says (Aggregator listen members turns) = SaysAggregator listen members turns
 Says (Server listen router tick_ms turns) = SaysServer listen router tick_ms turns
 Says (Client listen to policy wait tries tick_ms turns) = SaysClient listen to policy wait tries tick_ms turns
 Says (Replay members me aggregator bounds election) = SaysReplay members me aggregator bounds election

@@ -6,6 +6,7 @@ ghost use Rattle.hc_text.specs.Commands.{word_of};
 #[derive(Debug, Clone, Copy, PartialEq, Eq)]
 pub(crate) enum CommandName {
     Router,
+    Aggregator,
     Server,
     Client,
     Replay,
@@ -19,6 +20,9 @@ impl CommandName {
     {
         if word == "router" {
             return Some(CommandName::Router);
+        }
+        if word == "aggregator" {
+            return Some(CommandName::Aggregator);
         }
         if word == "server" {
             return Some(CommandName::Server);

@@ -1,6 +1,8 @@
 //! What the words of a command line and the lines of a script mean, and the lines that are printed.
 #![tactic(auto)]
 
+mod aggregator_words;
+mod apart;
 mod body;
 mod call;
 mod calls;

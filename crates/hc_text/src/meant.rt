@@ -17,6 +17,12 @@ pub enum Meant {
         tick_ms: u32,
         turns: u64,
     },
+    /// An aggregator, which commits for the leader of a group.
+    Aggregator {
+        listen: Addr,
+        members: Addrs,
+        turns: u64,
+    },
     /// The key-value service on one server.
     Server {
         listen: Addr,

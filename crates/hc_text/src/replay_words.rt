@@ -1,16 +1,17 @@
-ghost use Rattle.std.specs.Prelude.{◌≡◌, ◌↔◌, ℕ, List, Option, IsTrue, IfOk, IfErr};
+ghost use Rattle.std.specs.Prelude.{◌≡◌, ℕ, List, Option, IfOk, IfErr};
 ghost use Rattle.clap.specs.Words.{app_of};
 ghost use Rattle.r2_base.specs.declared.addr.Addr.{Addr as AddrSpec};
 ghost use Rattle.hc_text.specs.declared.command_name.CommandName.TheVariants as names;
 ghost use Rattle.hc_text.specs.Commands.{replay_command};
-ghost use Rattle.hc_text.specs.Words.{name_of, IsApart, Says, SaysReplay};
+ghost use Rattle.hc_text.specs.Words.{name_of, Says, SaysReplay};
 
+use crate::apart::is_apart;
 use crate::meant::Meant;
 use crate::options::OptionRule::{Defaulted, Optional, Required};
 use crate::options::{Options, command_with};
 use clap::Command;
 use cmd_script::TextFault;
-use r2_base::{Addr, Addrs, NoMemory};
+use r2_base::NoMemory;
 use std::alloc::Global;
 
 #[tactic(auto, unfolding(crate::specs::Commands::replay_command))]
@@ -52,17 +53,4 @@ pub(crate) fn read_replay(alloc: Global, options: &Options) -> Result<Meant, Tex
         bounds,
         election,
     })
-}
-
-/// The aggregator's address isn't a member's.
-fn is_apart(aggregator: Option<Addr>, members: &Addrs) -> bool
-    ensures { IsTrue result ↔ IsApart aggregator members.now }
-{
-    match aggregator {
-        Some(aggregator) => members
-            .as_slice()
-            .iter()
-            .all(|member| *member != aggregator),
-        None => true,
-    }
 }

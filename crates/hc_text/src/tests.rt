@@ -166,6 +166,26 @@ fn words_of_a_router(rt: HostRuntime) -> Result<(), Fail> {
 }
 
 #[test]
+fn words_of_an_aggregator(rt: HostRuntime) -> Result<(), Fail> {
+    let alloc = rt.alloc();
+    let plain = Meant::Aggregator {
+        listen: CLIENT,
+        members: addrs(alloc, &[SERVER])?,
+        turns: 72_057_594_037_927_936,
+    };
+    let line = "aggregator --listen 10.0.0.9:7001 --members 10.0.0.1:9000";
+    assert!(rt; meant(alloc, line)? == Ok(plain));
+    let full = Meant::Aggregator {
+        listen: OTHER,
+        members: addrs(alloc, &[CLIENT, SERVER])?,
+        turns: 1,
+    };
+    let line = "aggregator --turns=1 --members=10.0.0.9:7001,10.0.0.1:9000 --listen=10.0.0.1:9001";
+    assert!(rt; meant(alloc, line)? == Ok(full));
+    Ok(())
+}
+
+#[test]
 fn words_of_a_server(rt: HostRuntime) -> Result<(), Fail> {
     let alloc = rt.alloc();
     let plain = Meant::Server {
@@ -284,6 +304,12 @@ fn other_words(rt: HostRuntime) -> Result<(), Fail> {
         "router --listen 10.0.0.9:7001 --servers 10.0.0.1:9000 --n 17",
         "router --listen 10.0.0.9:7001 --servers 10.0.0.1:9000 --workers 2",
         "router --listen 10.0.0.9:7001 --servers 10.0.0.1:9000 --tick-ms 1001",
+        "aggregator --listen 10.0.0.9:7001",
+        "aggregator --members 10.0.0.1:9000",
+        "aggregator --listen 10.0.0.1:9000 --members 10.0.0.1:9000",
+        "aggregator --listen 10.0.0.9:7001 --members 10.0.0.1:9000,10.0.0.9:7001",
+        "aggregator --listen 10.0.0.9:7001 --members 10.0.0.1:9000,10.0.0.1:9000",
+        "aggregator --listen 10.0.0.9:7001 --members 10.0.0.1:9000 --tick-ms 10",
         "server --listen=",
         "server --listen 10.0.0.1:9000 --router=",
         "server --listen 10.0.0.1:9000 --tick-ms 010",

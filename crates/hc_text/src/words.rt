@@ -6,6 +6,7 @@ ghost use Rattle.hc_text.specs.declared.meant.Meant.{Meant as MeantSpec};
 ghost use Rattle.hc_text.specs.Commands.{command_of, word_of};
 ghost use Rattle.hc_text.specs.Words.{name_of, Means, Says};
 
+use crate::aggregator_words::{aggregator_command, read_aggregator};
 use crate::client_words::{client_command, read_client};
 use crate::command_name::CommandName;
 use crate::meant::Meant;
@@ -51,6 +52,7 @@ fn command<'a>(alloc: Global, name: CommandName) -> Result<Command<'a>, NoMemory
 {
     match name {
         CommandName::Router => router_command(alloc),
+        CommandName::Aggregator => aggregator_command(alloc),
         CommandName::Server => server_command(alloc),
         CommandName::Client => client_command(alloc),
         CommandName::Replay => replay_command(alloc),
@@ -65,6 +67,7 @@ fn read_options(alloc: Global, name: CommandName, options: &Options) -> Result<M
 {
     match name {
         CommandName::Router => read_router(alloc, options),
+        CommandName::Aggregator => read_aggregator(alloc, options),
         CommandName::Server => read_server(options),
         CommandName::Client => read_client(alloc, options),
         CommandName::Replay => read_replay(alloc, options),

@@ -3,7 +3,7 @@ use Rattle.std.proofs.Common.{inl, inr, ℕ, List, length, arith}
 use Rattle.r2_link.specs.Faults.{Faults, NoneFalls}
 use Rattle.r2_link.proofs.Faults.{then-Rose}
 use Rattle.hc_text.specs.declared.meant.Meant.{Meant}
-use Rattle.hc_text.specs.declared.meant.Meant.TheVariants.{Router, Server, Client, Replay}
+use Rattle.hc_text.specs.declared.meant.Meant.TheVariants.{Router, Aggregator, Server, Client, Replay}
 use Rattle.hc_text.specs.Words.{Means}
 use Rattle.hc_text.proofs.SameTexts.{bounds_valid}
 use Rattle.cmd_status.specs.declared.status.Status.TheVariants.{BadWords}
@@ -19,6 +19,13 @@ means_within words (Router listen servers n workers tick_ms turns) means = (
   means.hold.bounded.holds.to_most,
   omega (arith, means.hold.works.holds.from_least, means.hold.works.holds.to_most),
   means.hold.ticks.holds.from_least,
+  omega (arith, means.hold.ends.holds.to_most),
+)
+means_within words (Aggregator listen members turns) means = (
+  means.hold.group.holds.some,
+  means.hold.group.holds.few,
+  means.hold.group.holds.distinct,
+  means.hold.apart,
   omega (arith, means.hold.ends.holds.to_most),
 )
 means_within words (Server listen router tick_ms turns) means =
@@ -39,6 +46,7 @@ means_within words (Replay members me aggregator bounds election) means = record
 -- no command that ran refuses its words
 pub runs-known : (m : Meant) (a b : Ends) → (row m).runs a b BadWords → ⊥
 runs-known (Router listen servers n workers tick_ms turns) a b ran = ran
+runs-known (Aggregator listen members turns) a b ran = ran.1
 runs-known (Server listen router tick_ms turns) a b ran = ran.ended
 runs-known (Client listen to policy wait tries tick_ms turns) a b ran = elim ran.lines.ended [ inl between ↦ between.1 | inr within ↦ within.stops ]
 runs-known (Replay members me aggregator bounds election) a b ran = ran.did.ends

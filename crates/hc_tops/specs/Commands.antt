@@ -1,6 +1,6 @@
 -- The commands: what each uses, where it listens, and what it does.
-use Rattle.std.specs.Prelude.{◌≡◌, ◌⊎◌, ℕ, ◌≤◌, Bool, true, false, List, [], length, Option, Some, None}
-use Rattle.r2_base.specs.Limits.{most_turns}
+use Rattle.std.specs.Prelude.{◌≡◌, ◌≢◌, ◌⊎◌, ℕ, ◌+◌, ◌≤◌, Bool, true, false, List, [], length, All, AllPairs, Option, Some, None}
+use Rattle.r2_base.specs.Limits.{greatest_member, most_turns}
 use Rattle.r2_base.specs.declared.addr.Addr.{Addr}
 use Rattle.r2_jbsq.specs.Limits.{greatest_n, most_servers}
 use Rattle.r2_link.specs.Faults.{Faults, NoneFalls, Rose, calm}
@@ -8,7 +8,7 @@ use Rattle.r2_link.specs.Links.{LinkPasses, LinkTold}
 use Rattle.hc_text.specs.declared.meant.Meant.{Meant}
 use Rattle.cmd_script.specs.declared.text_fault.TextFault.{TextFault}
 use Rattle.cmd_script.specs.declared.text_fault.TextFault.TheVariants.{Outside, Memory as NoRoom}
-use Rattle.hc_text.specs.declared.meant.Meant.TheVariants.{Router, Server, Client, Replay}
+use Rattle.hc_text.specs.declared.meant.Meant.TheVariants.{Router, Aggregator, Server, Client, Replay}
 use Rattle.cmd_status.specs.declared.status.Status.{Status}
 use Rattle.cmd_status.specs.declared.status.Status.TheVariants.{BadWords, LinkFault, Memory}
 use Rattle.cmd_status.specs.Causes.{IsCaused}
@@ -17,6 +17,8 @@ use Rattle.cmd_loop.specs.Loop.{IsServed, Serves}
 use Rattle.cmd_loop.specs.Plain.{Unstored}
 use Rattle.cmd_server.specs.Plain.{PlainSends}
 use Rattle.cmd_router.specs.Routes.{Routes}
+use Rattle.cmd_aggregator.specs.Aggregates.{AggregatorSends}
+use Rattle.cmd_aggregator.specs.Untimed.{ServesUntimed}
 use Rattle.cmd_client.specs.Calls.{Calls, IsCalled}
 use Rattle.cmd_client.specs.Script.{IsScript as IsCallScript}
 use Rattle.cmd_replay.specs.Grammar.{IsScript}
@@ -62,6 +64,14 @@ row (Router listen servers n workers tick_ms turns) = record {
   is_plain = ⊥;
   is_within = (1 ≤ length servers) × (length servers ≤ most_servers) × (1 ≤ n) × (n ≤ greatest_n) × (workers ≡ 1) × (1 ≤ tick_ms) × (turns ≤ most_turns);
   runs = λ old new status. Routes (record { me = listen; servers = servers; n = n }) (record { tick_ms = tick_ms; turns = turns }) old new status;
+  ends_well = λ script status. IsServed status;
+}
+row (Aggregator listen members turns) = record {
+  uses = record { source = false; sink = false; link = true; clock = false };
+  listens = Some listen;
+  is_plain = ⊥;
+  is_within = (1 ≤ length members) × (length members ≤ greatest_member + 1) × AllPairs (λ a b. a ≢ b) members × All (λ member. member ≢ listen) members × (turns ≤ most_turns);
+  runs = λ old new status. ServesUntimed (AggregatorSends listen members) turns old.link new.link status;
   ends_well = λ script status. IsServed status;
 }
 row (Server listen router tick_ms turns) = record {

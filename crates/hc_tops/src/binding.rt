@@ -15,6 +15,7 @@ pub(crate) fn listens_at(meant: &Meant) -> Option<Addr>
 {
     match meant {
         Meant::Router { listen, .. } => Some(*listen),
+        Meant::Aggregator { listen, .. } => Some(*listen),
         Meant::Server { listen, .. } => Some(*listen),
         Meant::Client { listen, .. } => Some(*listen),
         Meant::Replay { .. } => None,
@@ -27,6 +28,7 @@ pub(crate) fn is_plain(meant: &Meant) -> bool
 {
     match meant {
         Meant::Router { .. } => false,
+        Meant::Aggregator { .. } => false,
         Meant::Server { .. } => false,
         Meant::Client { .. } => true,
         Meant::Replay { .. } => true,

@@ -5,6 +5,7 @@ mod binding;
 mod running;
 mod top;
 
+pub use cmd_aggregator::serve_aggregator;
 pub use cmd_client::{Calling, call_client};
 pub use cmd_loop::Pace;
 pub use cmd_replay::{Setup, replay};
@@ -15,8 +16,6 @@ pub use hc_text::Policy;
 pub use top::{run, run_plain};
 
 #[cfg(test)]
+mod in_memory;
+#[cfg(test)]
 mod tests;
-#[cfg(test)]
-mod together_tests;
-#[cfg(test)]
-mod waiting_tests;

@@ -5,6 +5,7 @@ ghost use Rattle.cmd_status.specs.declared.status.Status.TheVariants.{BadWords};
 ghost use Rattle.hc_tops.specs.Commands.{IsCalm, RunsBound, ends, fault_counts, row};
 
 use crate::binding::{bind_first, listens_at};
+use cmd_aggregator::serve_aggregator;
 use cmd_client::{Calling, call_client};
 use cmd_loop::Pace;
 use cmd_replay::{Setup, replay};
@@ -42,6 +43,7 @@ fn run_bound<S: Source, K: Sink, L: Link, C: Clock>(
 {
     match meant {
         Meant::Router { .. } => unreachable!(),
+        Meant::Aggregator { .. } => unreachable!(),
         Meant::Server { .. } => unreachable!(),
         Meant::Client {
             listen,
@@ -148,6 +150,16 @@ pub(crate) fn run_meant<S: Source, K: Sink, L: Twin, C: Clock>(
             }
             let pace = Pace { tick_ms, turns };
             serve_router(alloc, listen, servers, n, workers, sink, link, clock, pace)
+        }
+        Meant::Aggregator {
+            listen,
+            members,
+            turns,
+        } => {
+            if let Err(status) = bind_first(Some(listen), link) {
+                return status;
+            }
+            serve_aggregator(alloc, listen, members, link, turns)
         }
         Meant::Server {
             listen,

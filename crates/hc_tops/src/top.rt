@@ -35,8 +35,8 @@ pub fn run_plain<S: Source, K: Sink, E: Sink, L: Link, C: Clock>(
     link: &mut L,
     clock: &mut C,
 ) -> Status
-    // The words are refused where they mean nothing, a router or a server, and only there, or memory runs out first; else the command
-    // ran that they mean.
+    // The words are refused where they mean nothing, a router, an aggregator or a server, and only there, or memory runs out first;
+    // else the command ran that they mean.
     ensures ran { Ran (λ m. Means (map (λ w. string_bytes w) words.now) m × (row m).is_plain) (ends (S.left source.old) (K.written sink.old) (L.told link.old) (C.left clock.old))
         (ends (S.left source.new) (K.written sink.new) (L.told link.new) (C.left clock.new))
         (fault_counts (S.faults source.old) (K.faults sink.old) (L.faults link.old) (C.faults clock.old))
@@ -71,7 +71,7 @@ pub fn run_plain<S: Source, K: Sink, E: Sink, L: Link, C: Clock>(
 
 /// All that the program does: what the words ask for, and the line on `errors` where it didn't go well.
 ///
-/// The link of a router, server or client is bound to its address first. A failing `errors` changes no status.
+/// The link of a router, aggregator, server or client is bound to its address first. A failing `errors` changes no status.
 pub fn run<S: Source, K: Sink, E: Sink, L: Twin, C: Clock>(
     alloc: Global,
     words: &[String],

@@ -6,7 +6,7 @@ use Rattle.hc_log.proofs.checks.follow_each.Goals as goal
 
 pub entries-preserved : goal.entries-preserved
 entries-preserved c =
-    let kept = c.args.kept.now in
+    let kept = take c.args.keep c.args.log.now in
     let entries = c.args.entries.now in
     let front = kept ++ take c.entries.i entries in
     let s = c.index-entries-i.result in
@@ -21,5 +21,5 @@ entries-preserved c =
 pub returns : goal.returns
 returns c =
     let all : take c.entries.i c.args.entries.now ≡ c.args.entries.now = take_all c.entries.i c.args.entries.now c.entries-test.false in
-    let each : FollowEach c.args.kept.now c.args.entries.now = rw all at c.entries.invariant.each in
+    let each : FollowEach (take c.args.keep c.args.log.now) c.args.entries.now = rw all at c.entries.invariant.each in
     ((λ t. each), (λ given. refl))

@@ -5,7 +5,7 @@ use Rattle.hc_log.proofs.checks.follow_each.Given as goal
 
 abbrev pub invariant-entries : goal.invariant-entries
 invariant-entries l = record {
-  counted : l.totals ≡ totals_of (l.kept ++ take l.i l.entries);
-  limits : IsWithinLimits (l.kept ++ take l.i l.entries);
-  each : FollowEach l.kept (take l.i l.entries);
+  counted : l.totals ≡ totals_of (take l.keep l.log ++ take l.i l.entries);
+  limits : IsWithinLimits (take l.keep l.log ++ take l.i l.entries);
+  each : FollowEach (take l.keep l.log) (take l.i l.entries);
 }

@@ -1,5 +1,5 @@
 -- Each turn of the loop keeps and sends the reply to one answer more.
-use Rattle.std.proofs.Common.{◌≡◌, ◌∷◌, [], ◌++◌, List, length, map, refl, sym, ap, subst, ◌∙◌, append_assoc, append-nil, arith}
+use Rattle.std.proofs.Common.{◌≡◌, ◌∷◌, [], ◌++◌, List, length, map, sym, ap, ◌∙◌, append_assoc, append-nil, arith}
 use Rattle.std.specs.Prelude.{fold}
 use Rattle.std.specs.Vec.Iter.{into_iter_items}
 use Rattle.std.proofs.lemmas.List.{nil_from_length}
@@ -7,7 +7,7 @@ use Rattle.hc_service.specs.declared.answer.Answer.{Answer}
 use Rattle.r2_frag.specs.Kept.{kept_with}
 use Rattle.hc_member.specs.Finish.{reply_to}
 use Rattle.hc_member.specs.Sending.{Reply, datagrams_of_all}
-use Rattle.hc_node.proofs.Finishing.{KeptAndSent, next-replied}
+use Rattle.hc_node.proofs.Finishing.{next-replied}
 use Rattle.hc_node.proofs.finish.keep_and_send_all.Goals as goal
 
 pub answers-preserved : goal.answers-preserved

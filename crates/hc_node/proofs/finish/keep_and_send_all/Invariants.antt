@@ -1,4 +1,4 @@
-use Rattle.std.proofs.Common.{◌≡◌, ◌++◌, length, map}
+use Rattle.std.proofs.Common.{◌≡◌, ◌++◌, length}
 use Rattle.std.specs.Vec.Iter.{into_iter_items, into_iter_len}
 use Rattle.hc_node.proofs.Finishing.{KeptAndSent}
 use Rattle.hc_node.proofs.finish.keep_and_send_all.Given as goal

@@ -1,6 +1,6 @@
 -- A meaning of a command is made of what that command is told.
 use Rattle.std.proofs.Common.{◌∙◌}
-use Rattle.hc_text.specs.declared.command_name.CommandName.TheVariants.{Router, Server, Client, Replay}
+use Rattle.hc_text.specs.declared.command_name.CommandName.TheVariants.{Router, Aggregator, Server, Client, Replay}
 use Rattle.hc_text.proofs.Commands.{of_name, says_made}
 use Rattle.hc_text.proofs.words.read_options.Goals as goal
 
@@ -9,6 +9,12 @@ returns-in-Router-clause-only c = λ m is says.
     let q = of_name m Router (is ∙ c.in-Router.is) in
     let f = q.fields in
     c.read_router.ensures.only f.0 f.1 f.2 f.3 f.4 f.5 (says_made Router m _ q says)
+
+pub returns-in-Aggregator-clause-only : goal.returns-in-Aggregator-clause-only
+returns-in-Aggregator-clause-only c = λ m is says.
+    let q = of_name m Aggregator (is ∙ c.in-Aggregator.is) in
+    let f = q.fields in
+    c.read_aggregator.ensures.only f.0 f.1 f.2 (says_made Aggregator m _ q says)
 
 pub returns-in-Server-clause-only : goal.returns-in-Server-clause-only
 returns-in-Server-clause-only c = λ m is says.

@@ -1,4 +1,4 @@
--- A router and a server, as the table has them, after a bind.
+-- A router, an aggregator and a server, as the table has them, after a bind.
 use Rattle.std.proofs.Common.{inr, subst}
 use Rattle.cmd_status.specs.declared.status.Status.{Status}
 use Rattle.cmd_loop.specs.Ends.{Ends}
@@ -19,10 +19,21 @@ returns-in_default-bind_first-clause-known g c = λ is.
 
 pub returns-in_default-bind_first-2-clause-did : goal.returns-in_default-bind_first-2-clause-did
 returns-in_default-bind_first-2-clause-did g c =
-    rw c.in-Server.is (inr (g.L.Link.told c.bind_first-in-Server.new.link, c.in_default-bind_first-2.ensures.bound, c.serve_plain.ensures.ran (ends (g.S.Source.left c.args.source.now) (g.K.Sink.written c.args.sink.now) (g.L.Link.told c.args.link.now) (g.C.Clock.left c.args.clock.now))))
+    rw c.in-Aggregator.is (inr (g.L.Link.told c.bind_first-in-Aggregator.new.link, c.in_default-bind_first-2.ensures.bound, c.serve_aggregator.ensures.ran))
 
 pub returns-in_default-bind_first-2-clause-known : goal.returns-in_default-bind_first-2-clause-known
 returns-in_default-bind_first-2-clause-known g c = λ is.
+    let a : Ends = ends (g.S.Source.left c.args.source.now) (g.K.Sink.written c.args.sink.now) (g.L.Link.told c.bind_first-in-Aggregator.new.link) (g.C.Clock.left c.args.clock.now) in
+    let b : Ends = ends (g.S.Source.left c.args.source.now) (g.K.Sink.written c.args.sink.now) (g.L.Link.told c.serve_aggregator.new.link) (g.C.Clock.left c.args.clock.now) in
+    let did : (row c.args.meant).runs a b c.serve_aggregator.result = rw c.in-Aggregator.is c.serve_aggregator.ensures.ran in
+    runs-known c.args.meant a b (subst (λ (s : Status). (row c.args.meant).runs a b s) is did)
+
+pub returns-in_default-bind_first-3-clause-did : goal.returns-in_default-bind_first-3-clause-did
+returns-in_default-bind_first-3-clause-did g c =
+    rw c.in-Server.is (inr (g.L.Link.told c.bind_first-in-Server.new.link, c.in_default-bind_first-3.ensures.bound, c.serve_plain.ensures.ran (ends (g.S.Source.left c.args.source.now) (g.K.Sink.written c.args.sink.now) (g.L.Link.told c.args.link.now) (g.C.Clock.left c.args.clock.now))))
+
+pub returns-in_default-bind_first-3-clause-known : goal.returns-in_default-bind_first-3-clause-known
+returns-in_default-bind_first-3-clause-known g c = λ is.
     let a : Ends = ends (g.S.Source.left c.args.source.now) (g.K.Sink.written c.args.sink.now) (g.L.Link.told c.bind_first-in-Server.new.link) (g.C.Clock.left c.args.clock.now) in
     let b : Ends = ends (g.S.Source.left c.args.source.now) (g.K.Sink.written c.args.sink.now) (g.L.Link.told c.serve_plain.new.link) (g.C.Clock.left c.serve_plain.new.clock) in
     let did : (row c.args.meant).runs a b c.serve_plain.result = rw c.in-Server.is (c.serve_plain.ensures.ran a) in

@@ -1,16 +1,19 @@
-use Rattle.std.proofs.Common.{◌≡◌, take, ap, ◌∙◌}
-use Rattle.hc_log.specs.Totals.{totals_of}
-use Rattle.hc_log.proofs.Logs.{IsLog-take, IsLog-limits}
+use Rattle.std.proofs.Common.{◌≡◌, ◌∙◌, length, reverse, arith}
+use Rattle.hc_log.proofs.Kept.{parted}
 use Rattle.hc_log.proofs.log.Log.cut.Goals as goal
 
-pub of-self-inside-requires : goal.of-self-inside-requires
-of-self-inside-requires c =
-    let items = c.self.inside.entries.items in
-    rw (c.as_slice.ensures.value, c.in_ok-others.ensures.items) (IsLog-limits (take c.args.keep items) (IsLog-take c.args.keep items c.self.invariant.1))
+pub pop-requires : goal.pop-requires
+pop-requires c = omega (arith, c.entries.invariant.left, c.last.ensures.index)
 
-pub invariant_of-self-2 : goal.invariant_of-self-2
-invariant_of-self-2 c =
-    let items = c.self.inside.entries.items in
-    let counted : c.of-self-inside.result ≡ totals_of (take c.args.keep items) =
-    c.of-self-inside.ensures ∙ ap totals_of (c.as_slice.ensures.value ∙ c.in_ok-others.ensures.items) in
-    rw c.in_ok-others.ensures.items (counted, IsLog-take c.args.keep items c.self.invariant.1)
+pub push_reserved-requires : goal.push_reserved-requires
+push_reserved-requires c = omega (arith, c.entries.invariant.taken, c.entries.invariant.room)
+
+pub returns-clause-kept : goal.returns-clause-kept
+returns-clause-kept c =
+    let left : length c.entries.self ≡ c.args.keep = omega (arith, c.entries.invariant.left, c.last.ensures.index) in
+    (parted c.args.self.now c.entries.self (reverse c.entries.others.items) c.args.keep c.entries.invariant.whole left).0
+
+pub returns-clause-others : goal.returns-clause-others
+returns-clause-others c =
+    let left : length c.entries.self ≡ c.args.keep = omega (arith, c.entries.invariant.left, c.last.ensures.index) in
+    c.from_vec.ensures ∙ c.reverse.ensures.items ∙ (parted c.args.self.now c.entries.self (reverse c.entries.others.items) c.args.keep c.entries.invariant.whole left).1

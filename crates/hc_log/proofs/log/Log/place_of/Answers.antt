@@ -1,15 +1,20 @@
-use Rattle.std.proofs.Common.{◌≡◌, Some, None}
-use Rattle.std.specs.List.{position}
-use Rattle.hc_log.specs.Log.{asks_as}
-use Rattle.hc_log.proofs.Logs.{stands-from_None, stands-from_Some}
+use Rattle.std.proofs.Common.{◌∙◌, ap, is_some}
+use Rattle.hc_log.specs.Log.{place_of}
+use Rattle.hc_log.specs.Places.{told_place}
+use Rattle.hc_log.proofs.Standing.{stands-from_place}
 use Rattle.hc_log.proofs.log.Log.place_of.Goals as goal
 
-pub returns-in-None-clause-stands : goal.returns-in-None-clause-stands
-returns-in-None-clause-stands c =
-    let none : position (asks_as c.args.rid.now) c.args.self.now ≡ None = cc in
-    stands-from_None c.args.rid.now c.args.self.now none
+pub returns-in_err-index-clause-index : goal.returns-in_err-index-clause-index
+unfolding told_place
+returns-in_err-index-clause-index c =
+    c.from_residual.ensures ∙ c.in_err-index.ensures.value ∙ c.self.invariant.tell c.args.rid.now ∙ ap (place_of c.args.rid.now) c.self.view_is
 
-pub returns-in-Some-clause-stands : goal.returns-in-Some-clause-stands
-returns-in-Some-clause-stands c =
-    let some : position (asks_as c.args.rid.now) c.args.self.now ≡ Some c.in-Some.before = cc in
-    stands-from_Some c.args.rid.now c.args.self.now c.in-Some.before some
+pub returns-in_err-index-clause-stands : goal.returns-in_err-index-clause-stands
+returns-in_err-index-clause-stands c = ap is_some (returns-in_err-index-clause-index c) ∙ stands-from_place c.args.rid.now c.args.self.now
+
+pub returns-clause-index : goal.returns-clause-index
+unfolding told_place
+returns-clause-index c = c.in_ok-index.ensures.value ∙ c.self.invariant.tell c.args.rid.now ∙ ap (place_of c.args.rid.now) c.self.view_is
+
+pub returns-clause-stands : goal.returns-clause-stands
+returns-clause-stands c = ap is_some (returns-clause-index c) ∙ stands-from_place c.args.rid.now c.args.self.now

@@ -1,9 +1,5 @@
-use Rattle.std.proofs.Common.{◌≡◌, ◌∙◌, List, map, ap, subst}
-use Rattle.r2_base.specs.declared.datagram.Datagram.{Datagram}
-use Rattle.hc_member.specs.Finish.{applied, executed_batch, finished, reply_to}
-use Rattle.hc_member.specs.Member.{Member}
-use Rattle.hc_member.specs.Sending.{Reply}
-use Rattle.hc_node.specs.Sends.{AreSent}
+use Rattle.std.proofs.Common.{◌∙◌, ap}
+use Rattle.hc_member.specs.Finish.{applied, finished}
 use Rattle.hc_node.proofs.Finishing.{due-replies, finished-is, finished-sends, is-due, queue-after}
 use Rattle.hc_node.proofs.member.Member.finish.Goals as goal
 

@@ -1,5 +1,5 @@
 -- Only an Order cuts entries of the log, and only some messages are answered.
-use Rattle.std.proofs.Common.{◌≡◌, true, false, sym, ap, ◌∙◌}
+use Rattle.std.proofs.Common.{sym, ap, ◌∙◌}
 use Rattle.hc_member.specs.Turn.{told}
 use Rattle.hc_node.proofs.TurnRows.{is_order, is_quiet, keeps-told, none-sent, quiet-told}
 use Rattle.hc_node.proofs.member.Member.hear_told.Goals as goal

@@ -1,10 +1,5 @@
-use Rattle.std.proofs.Common.{◌≡◌, sym, subst}
-use Rattle.std.specs.Prelude.{OnOk, IfOk}
-use Rattle.hc_member.specs.Turn.{Reacted}
 use Rattle.hc_member.proofs.Received.{received_good}
 use Rattle.hc_member.proofs.Turned.{sound-received}
-use Rattle.hc_node.specs.Sends.{AreSent}
-use Rattle.hc_node.proofs.Settling.{reacted-is}
 use Rattle.hc_node.proofs.member.Member.react.Goals as goal
 
 pub react_to-requires-clause-sound : goal.react_to-requires-clause-sound

@@ -1,8 +1,8 @@
 -- The row, and then what follows it, are the reaction.
-use Rattle.std.proofs.Common.{◌≡◌, ◌≤◌, Option, length, sym, ap, subst, ◌∙◌, refl}
+use Rattle.std.proofs.Common.{◌≡◌, Option, sym, ap, ◌∙◌}
 use Rattle.hc_log.specs.declared.record.Record.{Record}
 use Rattle.hc_member.specs.Member.{Member}
-use Rattle.hc_member.specs.Turn.{reacted_to, stored_of}
+use Rattle.hc_member.specs.Turn.{reacted_to}
 use Rattle.hc_node.specs.Sends.{AreSent}
 use Rattle.hc_node.proofs.Settling.{for-ok, reacted-member, reacted-sends, reacted-stored, row-leads, settled-known}
 use Rattle.hc_node.proofs.TurnRows.{always}

@@ -1,4 +1,4 @@
-use Rattle.std.proofs.Common.{◌≡◌, true, false, sym, ap, ◌∙◌}
+use Rattle.std.proofs.Common.{sym, ap, ◌∙◌}
 use Rattle.hc_node.proofs.TurnRows.{is_told, keeps-row}
 use Rattle.hc_node.proofs.member.Member.row.Goals as goal
 

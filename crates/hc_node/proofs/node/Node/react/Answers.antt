@@ -1,5 +1,5 @@
 use Rattle.std.proofs.Common.{◌≡◌, sym, subst, ◌∙◌}
-use Rattle.hc_node.specs.Node.{IsSoundUnlessSpent, NodeState}
+use Rattle.hc_node.specs.Node.{IsSoundUnlessSpent}
 use Rattle.hc_node.proofs.Nodes.{react-changed, react-short, react-sound}
 use Rattle.hc_node.proofs.node.Node.react.Goals as goal
 

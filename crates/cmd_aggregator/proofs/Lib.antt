@@ -1,0 +1,4 @@
+pub mod Aggregates
+pub mod Splits
+pub mod Still
+pub mod Untimed

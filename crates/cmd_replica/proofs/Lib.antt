@@ -1,0 +1,9 @@
+pub mod Alone
+pub mod Begun
+pub mod Called
+pub mod Calm
+pub mod Crossing
+pub mod Led
+pub mod Makes
+pub mod Recorded
+pub mod Turns

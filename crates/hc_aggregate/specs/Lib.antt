@@ -1,0 +1,5 @@
+pub mod Group
+pub mod Tally
+pub mod Turn
+pub mod Sound
+pub mod Laws

@@ -1,0 +1,11 @@
+pub mod Appending
+pub mod Rows
+pub mod Settled
+pub mod PieceStored
+pub mod Frames
+pub mod Parsing
+pub mod CutFile
+pub mod NewFile
+pub mod Prepared
+pub mod Crashes
+pub mod Pieces

@@ -1,4 +1,0 @@
-use Rattle.hc_tops.proofs.together_tests.routed.Goals as goal
-
-pub heard-preserved : goal.heard-preserved
-heard-preserved c = c.in_ok-sends.ensures.counted c.heard.i c.heard.invariant
