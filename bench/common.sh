@@ -3,7 +3,7 @@
 # It is sourced by a script that has set -euo pipefail.
 
 here=$(cd "$(dirname "${BASH_SOURCE[0]}")" && pwd)
-program=$here/../crates/r2p2_suite/out/r2p2_suite
+program=${R2P2_SUITE:-$here/../crates/r2p2_suite/out/r2p2_suite} # the variable names another one
 
 refuse() {
     echo "$*" >&2

@@ -30,8 +30,9 @@ Peer = collections.namedtuple("Peer", "name server datagrams wanted")
 File = collections.namedtuple("File", "name before after")
 
 # A case: its file or folder, what it shows, its servers, the peers that send to them, its clients: lists of those that run at once, one
-# after the other; and its files.
-Case = collections.namedtuple("Case", "path about servers peers clients files")
+# after the other; the servers that are killed and started again while they run, a list for each of these lists; its files, those that must
+# be journals in the end, and whether its replies have to be those of one thread.
+Case = collections.namedtuple("Case", "path about servers peers clients restarts files journals one_thread")
 
 INPUT, OUTPUT, ERRORS = "<", ">", "!"
 FOLDER_FILES = {"words", "input", "output", "errors", "status", "programs", "server"}
@@ -39,11 +40,12 @@ TODO = "TODO"
 MARKED = re.compile(r"([<>!])(=?)(?: (.*))?")
 SECTION = re.compile(r"\[(server|client|and client|datagrams) (\w+)(?: to (\w+))?\]")
 FILE_SECTION = re.compile(r"\[file (\w[\w.]*)\]")
+MARK = re.compile(r"\[(restart|journal|one thread)(?: (\w[\w.]*))?\]")
 
 
 def case_of(run):
     """The case of one run by itself."""
-    return Case("", "", [], [], [[run]], [])
+    return Case("", "", [], [], [[run]], [[]], [], [], False)
 
 
 class Section:
@@ -106,6 +108,18 @@ class FileSection:
         return File(self.name, self.contents[INPUT], self.contents[OUTPUT])
 
 
+class Mark:
+    """A line that asks for something, and has none below it."""
+
+    def __init__(self, kind, name):
+        if (kind == "one thread") != (name is None):
+            raise BadCase("only [one thread] has no name")
+        self.kind, self.name = kind, name
+
+    def add(self, line, number):
+        raise BadCase(f"no line belongs to [{self.kind}]")
+
+
 def about_of(lines):
     """What the case shows, which its first lines say."""
     said = []
@@ -119,12 +133,14 @@ def about_of(lines):
 def sections_of(lines):
     sections = []
     for number, line in enumerate(lines, 1):
-        header, file_header = SECTION.fullmatch(line), FILE_SECTION.fullmatch(line)
+        header, file_header, mark = (form.fullmatch(line) for form in (SECTION, FILE_SECTION, MARK))
         try:
             if header:
                 sections.append(Section(*header.groups()))
             elif file_header:
                 sections.append(FileSection(file_header[1]))
+            elif mark:
+                sections.append(Mark(*mark.groups()))
             elif line.strip() and not line.startswith("#"):
                 sections = sections or [Section("client", "client")]
                 sections[-1].add(line, number)
@@ -141,14 +157,17 @@ def case_of_file(path):
         raise BadCase("its first comment doesn't say what it shows")
     sections = sections_of(lines)
     files = [section.file() for section in sections if section.kind == "file"]
-    if len({file.name for file in files}) < len(files):
+    journals = [section.name for section in sections if section.kind == "journal"]
+    names = [file.name for file in files] + journals
+    if len(set(names)) < len(names):
         raise BadCase("it has two files of one name")
-    return Case(path, about, *programs_of([section for section in sections if section.kind != "file"]), files)
+    programs = programs_of([section for section in sections if section.kind not in ("file", "journal", "one thread")])
+    return Case(path, about, *programs, files, journals, any(section.kind == "one thread" for section in sections))
 
 
 def programs_of(sections):
-    """The servers, the peers that send to them, and the clients that run at once, one after the other."""
-    servers, peers, clients = [], [], []
+    """The servers, the peers that send to them, the clients that run at once, one after the other, and who is restarted meanwhile."""
+    servers, peers, clients, restarts = [], [], [], []
     for section in sections:
         if section.kind == "server":
             servers.append(section.run())
@@ -156,15 +175,27 @@ def programs_of(sections):
             peers.append(section.peer())
         elif section.kind == "client":
             clients.append([section.run()])
-        elif clients:
-            clients[-1].append(section.run())
-        else:
+            restarts.append([])
+        elif not clients:
             raise BadCase(f"no client comes before {section.name}")
-    if not sections or len({section.name for section in sections}) < len(sections):
+        elif section.kind == "restart":
+            restarts[-1].append(section.name)
+        else:
+            clients[-1].append(section.run())
+    check_names(servers, peers, clients, restarts)
+    return servers, peers, clients, restarts
+
+
+def check_names(servers, peers, clients, restarts):
+    """Refuses a case without programs, and one whose names are of two or of nobody."""
+    names = [each.name for each in [*servers, *peers, *(run for line in clients for run in line)]]
+    if not names or len(set(names)) < len(names):
         raise BadCase("it has no program, or two of one name")
-    if {peer.server for peer in peers} - {server.name for server in servers}:
+    known = {server.name for server in servers}
+    if {peer.server for peer in peers} - known:
         raise BadCase("datagrams go to no server of the case")
-    return servers, peers, clients
+    if {name for line in restarts for name in line} - known:
+        raise BadCase("a restart is of no server of the case")
 
 
 def contents(folder, name):
@@ -199,7 +230,7 @@ def case_of_folder(folder):
     else:
         servers = [server_of_folder(folder)] if has(folder, "server") else []
         clients = [[run_of_folder(folder, "client")]]
-    return Case(folder, about, servers, [], clients, [])
+    return Case(folder, about, servers, [], clients, [[] for _ in clients], [], [], False)
 
 
 def read_case(path):

@@ -69,20 +69,29 @@ def has_loopback():
         return False
 
 
+def own_port(words):
+    """The port of this machine at which a program with these words listens: at --listen, or as the member --me of --members. Nothing where
+    it is none."""
+    options = dict(zip(words[1::2], words[2::2]))
+    members, number = options.get(b"--members", b"").split(b","), options.get(b"--me", b"")
+    member = members[int(number)] if number.isdigit() and int(number) < len(members) else b""
+    port = re.fullmatch(rb"127\.0\.0\.1:(\d+)", options.get(b"--listen", b"" if words[:1] == [b"replay"] else member))
+    return int(port[1]) if port else None
+
+
 class Running:
     """A run of the program that was started in a folder. `addresses` are those that words name in braces."""
 
     def __init__(self, run, addresses, folder):
         self.run = run
         words = [re.sub(rb"\{\w+\}", lambda name: addresses.get(name[0], name[0]), word) for word in run.words]
-        place = words.index(b"--listen") + 1 if b"--listen" in words[:-1] else 0
-        port = re.fullmatch(rb"127\.0\.0\.1:(\d+)", words[place]) if place else None
-        self.port = int(port[1]) if port else None
+        self.port = own_port(words)
+        self.output, self.errors = tempfile.TemporaryFile(), tempfile.TemporaryFile()
         with tempfile.TemporaryFile() as given:
             given.write(run.input)
             given.seek(0)
             self.process = subprocess.Popen(
-                [os.fsencode(PROGRAM)] + words, stdin=given, stdout=subprocess.PIPE, stderr=subprocess.PIPE, cwd=folder
+                [os.fsencode(PROGRAM)] + words, stdin=given, stdout=self.output, stderr=self.errors, cwd=folder
             )
 
     def listens(self, end):
@@ -98,18 +107,23 @@ class Running:
                     outside.sendto(b"", ("127.0.0.1", self.port))
                 time.sleep(0.002)
 
+    def lines(self):
+        """How many lines it has printed so far."""
+        return os.pread(self.output.fileno(), os.fstat(self.output.fileno()).st_size, 0).count(b"\n")
+
     def ends(self, end):
         """How it ends."""
         try:
-            output, errors = self.process.communicate(timeout=max(0.1, end - time.monotonic()))
+            self.process.wait(timeout=max(0.1, end - time.monotonic()))
         except subprocess.TimeoutExpired:
             return Ended(self.run, None, b"", b"")
-        return Ended(self.run, self.process.returncode, output, errors)
+        for text in (self.output, self.errors):
+            text.seek(0)
+        return Ended(self.run, self.process.returncode, self.output.read(), self.errors.read())
 
     def kill(self):
-        if self.process.poll() is None:
-            self.process.kill()
-        self.process.communicate()
+        self.process.kill()
+        self.process.wait()
 
 
 def port_of(name, addresses):
@@ -138,6 +152,15 @@ def received_by(outside):
         while True:
             found.append(outside.recv(65_536))
     return found
+
+
+def are_halfway(calling, end):
+    """Waits until clients have together printed half as many lines as they read, or one has ended."""
+    half = sum(each.run.input.count(b"\n") for each in calling) / 2
+    while time.monotonic() < end and all(each.process.poll() is None for each in calling):
+        if sum(each.lines() for each in calling) >= half:
+            break
+        time.sleep(0.002)
 
 
 def write_files(files, folder):
@@ -177,8 +200,12 @@ def run_case(case):
         sockets = [started.enter_context(socket_of(peer, addresses)) for peer in case.peers]
         for peer, outside in zip(case.peers, sockets):
             send_all(peer, outside, addresses)
-        for line in case.clients:
+        for line, restarts in zip(case.clients, case.restarts):
             calling = [start(run) for run in line]
+            for place in (place for place, each in enumerate(serving) if each.run.name in restarts):
+                are_halfway(calling, end)
+                serving[place].kill()
+                serving[place] = start(serving[place].run)
             ended += [each.ends(end) for each in calling]
         for each in serving:
             each.spends_turns(end)

@@ -7,3 +7,4 @@ pub mod Party
 pub mod Plain
 pub mod Round
 pub mod Loop
+pub mod Bound

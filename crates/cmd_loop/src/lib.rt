@@ -1,6 +1,7 @@
 //! The loop of the commands: it runs a party of the protocol between a link, a clock and a journal.
 #![tactic(auto)]
 
+mod binding;
 mod draining;
 mod no_clock;
 mod no_journal;
@@ -14,6 +15,7 @@ mod ticker;
 mod turning;
 mod without_journal;
 
+pub use binding::bind_first;
 pub use no_clock::NoClock;
 pub use no_journal::NoJournal;
 pub use pace::Pace;

@@ -1,4 +1,4 @@
-ghost use Rattle.std.specs.Prelude.{◌≡◌, false, None, Some, if◌then◌else◌};
+ghost use Rattle.std.specs.Prelude.{⊤, ◌≡◌, false, None, Some, if◌then◌else◌};
 ghost use Rattle.hc_journal.specs.declared.journal.First.TheVariants.{Memory};
 
 use hc_journal::{First, Journal, JournalFault};
@@ -25,6 +25,14 @@ impl Journal for NoJournal {
     ghost ended = { λ j. if j.was_asked then Some Memory else None };
 
     ghost faults = { λ j. 0 };
+
+    ghost identity = { λ j. 0 };
+
+    ghost since = { λ old new. ⊤ };
+
+    ghost begins = { λ j. tt };
+
+    ghost joins = { λ old between new going first second. tt };
 
     fn append(&mut self, _alloc: Global, _r: &Record) -> Result<(), JournalFault> {
         if self.was_asked {

@@ -38,6 +38,8 @@ pub(crate) fn take_item<P: Party, L: Link, J: Journal>(
         (record o { link = L.told link.old; records = J.records journal.old }) (record o { link = L.told link.new; records = J.records journal.new }) status) }
     ensures caused { IfErr result (IsCaused (record calm { link = L.faults link.old; disk = J.faults journal.old }) (record calm { link = L.faults link.new; disk = J.faults journal.new })) }
     ensures steady { NoneFalls (record calm { link = L.faults link.old; disk = J.faults journal.old }) (record calm { link = L.faults link.new; disk = J.faults journal.new }) }
+    ensures same { J.identity journal.new ≡ J.identity journal.old }
+    ensures since { J.since journal.old journal.new }
 {
     let wait_ms = wait_of(party, tick_ms);
     let TakenIn { event, replies } = match take_in(alloc, party, link, wait_ms) {
@@ -91,6 +93,8 @@ pub(crate) fn ask_clock<P: Party, L: Link, J: Journal, C: Clock>(
         (record calm { link = L.faults link.new; clock = C.faults clock.new; disk = J.faults journal.new })) }
     ensures steady { NoneFalls (record calm { link = L.faults link.old; clock = C.faults clock.old; disk = J.faults journal.old })
         (record calm { link = L.faults link.new; clock = C.faults clock.new; disk = J.faults journal.new }) }
+    ensures same { J.identity journal.new ≡ J.identity journal.old }
+    ensures since { J.since journal.old journal.new }
 {
     let Ok(moment) = clock.now() else {
         return Err(Status::ClockFault);
@@ -122,6 +126,8 @@ fn make_tick<P: Party, L: Link, J: Journal>(
         (record o { link = L.told link.old; records = J.records journal.old }) (record o { link = L.told link.new; records = J.records journal.new }) [] [] status) }
     ensures caused { IfErr result (IsCaused (record calm { link = L.faults link.old; disk = J.faults journal.old }) (record calm { link = L.faults link.new; disk = J.faults journal.new })) }
     ensures steady { NoneFalls (record calm { link = L.faults link.old; disk = J.faults journal.old }) (record calm { link = L.faults link.new; disk = J.faults journal.new }) }
+    ensures same { J.identity journal.new ≡ J.identity journal.old }
+    ensures since { J.since journal.old journal.new }
 {
     let Ok(replies) = party.finish(alloc) else {
         return Err(Status::Memory);

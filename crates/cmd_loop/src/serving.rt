@@ -49,6 +49,10 @@ pub fn serve<P: Party, L: Link, J: Journal, C: Clock>(
         (record calm { link = L.faults link.new; clock = C.faults clock.new; disk = J.faults journal.new }) result }
     ensures steady { NoneFalls (record calm { link = L.faults link.old; clock = C.faults clock.old; disk = J.faults journal.old })
         (record calm { link = L.faults link.new; clock = C.faults clock.new; disk = J.faults journal.new }) }
+
+    // It is the same journal, and what happened to the place where its records are kept is what happened over all calls together.
+    ensures same { J.identity journal.new ≡ J.identity journal.old }
+    ensures since { J.since journal.old journal.new }
 {
     let Ok(start) = clock.now() else {
         return Status::ClockFault;

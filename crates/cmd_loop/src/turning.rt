@@ -63,6 +63,8 @@ pub(crate) fn store<J: Journal>(
     ensures stops { IfErr result StopsStoring }
     ensures caused { IfErr result (IsCaused (record calm { disk = J.faults journal.old }) (record calm { disk = J.faults journal.new })) }
     ensures steady { NoneFalls (record calm { disk = J.faults journal.old }) (record calm { disk = J.faults journal.new }) }
+    ensures same { J.identity journal.new ≡ J.identity journal.old }
+    ensures since { J.since journal.old journal.new }
 {
     let Some(record) = stored else {
         return Ok(());
@@ -97,6 +99,8 @@ pub(crate) fn hear<P: Party, L: Link, J: Journal>(
         (record o { link = L.told link.old; records = J.records journal.old }) (record o { link = L.told link.new; records = J.records journal.new }) [] [] status) }
     ensures caused { IfErr result (IsCaused (record calm { link = L.faults link.old; disk = J.faults journal.old }) (record calm { link = L.faults link.new; disk = J.faults journal.new })) }
     ensures steady { NoneFalls (record calm { link = L.faults link.old; disk = J.faults journal.old }) (record calm { link = L.faults link.new; disk = J.faults journal.new }) }
+    ensures same { J.identity journal.new ≡ J.identity journal.old }
+    ensures since { J.since journal.old journal.new }
 {
     let Ok(turn) = party.react(alloc, event) else {
         return Err(Status::Memory);

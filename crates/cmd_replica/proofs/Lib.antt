@@ -7,3 +7,4 @@ pub mod Led
 pub mod Makes
 pub mod Recorded
 pub mod Turns
+pub mod Refusals

@@ -1,3 +1,4 @@
 pub mod Replica
 pub mod Party
 pub mod Laws
+pub mod Command

@@ -1,3 +1,13 @@
 pub mod Routed
 pub mod Twins
 pub mod Routes
+pub mod Counted
+pub mod Statuses
+pub mod Still
+pub mod Threads
+pub mod SeatLists
+pub mod Worked
+pub mod Together
+pub mod Ready
+pub mod Sums
+pub mod Shares

@@ -2,3 +2,8 @@ pub mod Totals
 pub mod Routed
 pub mod Twins
 pub mod Routes
+pub mod Counted
+pub mod Seats
+pub mod Works
+pub mod Desks
+pub mod Shares

@@ -6,21 +6,12 @@ ghost use Rattle.cmd_router.specs.Totals.{count_text, totals_line};
 
 use cmd_status::write_decimal;
 use r2_base::Failed;
+use r2_desk::Totals;
 use r2_link::{Sink, write_all};
 
-/// What a router's run comes to.
-#[derive(Clone, Copy, Debug, PartialEq, Eq)]
-pub(crate) struct RouterTotals {
-    /// The datagrams and quiets that were received, and the ticks.
-    pub turns: u64,
-    pub accepted: u64,
-    pub forwarded: u64,
-    pub answered: u64,
-}
-
-/// Writes the line of totals, which takes no memory.
+/// Writes the line of totals, which takes no memory: the turns are the datagrams and quiets that were received, and the ticks.
 #[tactic(auto, unfolding(crate::specs::Totals::totals_line))]
-pub(crate) fn write_totals<K: Sink>(sink: &mut K, totals: RouterTotals) -> Result<(), Failed>
+pub(crate) fn write_totals<K: Sink>(sink: &mut K, totals: Totals) -> Result<(), Failed>
     ensures whole { OnOk result (Appends (K.written sink.old) (K.written sink.new) (totals_line totals.turns totals.accepted totals.forwarded totals.answered)) }
     ensures prefix { AppendsPrefix (K.written sink.old) (K.written sink.new) (totals_line totals.turns totals.accepted totals.forwarded totals.answered) }
     ensures steady { K.faults sink.old ≤ K.faults sink.new }

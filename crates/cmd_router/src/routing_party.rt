@@ -3,9 +3,9 @@ ghost use Rattle.r2_jbsq.specs.Limits.{greatest_n, most_servers};
 ghost use Rattle.r2_jbsq.specs.State.{HadTurns, begin};
 ghost use Rattle.cmd_router.specs.Routed.{Becomes, becomes_none};
 
-use crate::router_totals::RouterTotals;
 use cmd_loop::PlainParty;
 use r2_base::{Addr, Addrs, Datagrams, Event, NoMemory};
+use r2_desk::Totals;
 use r2_jbsq::Router;
 use std::alloc::Global;
 
@@ -48,10 +48,10 @@ impl RoutingParty {
         Ok(RoutingParty { router, turns: 0 })
     }
 
-    pub(crate) fn totals(&self) -> RouterTotals
+    pub(crate) fn totals(&self) -> Totals
         ensures { result ≡ record { turns = self.now.turns; accepted = self.now.router.accepted; forwarded = self.now.router.forwarded; answered = self.now.router.answered } }
     {
-        RouterTotals {
+        Totals {
             turns: self.turns,
             accepted: self.router.accepted(),
             forwarded: self.router.forwarded(),

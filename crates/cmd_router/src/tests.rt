@@ -1,12 +1,15 @@
 //! Runs of a router between a link and a clock in memory.
 
+use crate::routing::serve_alone;
 use crate::serve_router;
 use cmd_loop::Pace;
 use cmd_status::Status;
 use r2_base::{Addr, Addrs, Bytes, Datagram, NoMemory, Numbers, Room};
 use r2_link::{Item, Items, Lane, Lanes, MemClock, MemLink, MemSink};
 use std::alloc::Global;
+use std::sync::Wait;
 use std::test::Fail;
+use std::thread::Threads;
 
 const ROUTER: Addr = Addr {
     ip: 0x0A00_0008,
@@ -109,10 +112,10 @@ fn numbers(alloc: Global, items: &[u64]) -> Result<Numbers, NoMemory> {
     Ok(Numbers::from_vec(Vec::from_slice(alloc, items)?))
 }
 
-/// Requests of the client with the ids 1 to 5.
-fn five_requests(alloc: Global) -> Result<Items, NoMemory> {
+/// Requests of the client with ids from the first one on, up to the end.
+fn requests(alloc: Global, first: u8, end: u8) -> Result<Items, NoMemory> {
     let mut items = Vec::new(alloc);
-    for id in 1..6u8 {
+    for id in first..end {
         let bytes = [0x52, 8, 0x01, 0xC0, 0, id, 0, 1, b'G', 0, 1, b'a'];
         items.push(Item::Datagram(Datagram {
             from: CLIENT,
@@ -136,7 +139,7 @@ fn link(alloc: Global, run: &Run) -> Result<MemLink, NoMemory> {
     };
     let mut lanes = Vec::new(alloc);
     lanes.push(Lane {
-        items: five_requests(alloc)?,
+        items: requests(alloc, 1, 6)?,
         room,
         fails: numbers(alloc, &[run.twin_fails])?,
     })?;
@@ -158,8 +161,8 @@ fn is_right(alloc: Global, run: &Run) -> Result<bool, Fail> {
         tick_ms: 100,
         turns: u64::from(run.turns),
     };
-    let ended = serve_router(
-        alloc, ROUTER, servers, 2, 1, &mut sink, &mut link, &mut clock, pace,
+    let ended = serve_alone(
+        alloc, ROUTER, servers, 2, &mut sink, &mut link, &mut clock, pace,
     );
     Ok(ended == run.status && sink.written() == run.printed && link.sent(alloc)?.len() == run.sent)
 }
@@ -168,6 +171,116 @@ fn is_right(alloc: Global, run: &Run) -> Result<bool, Fail> {
 fn a_router_runs_until_its_twin_ends(rt: HostRuntime) -> Result<(), Fail> {
     for run in RUNS {
         assert!(rt; is_right(rt.alloc(), &run)?);
+    }
+    Ok(())
+}
+
+/// A run of two workers over one router: the first is brought four requests, and the second the fifth.
+#[derive(Clone, Copy)]
+struct SharedRun {
+    /// The calls of the link and of the second worker's twin that fail, where 0 is none.
+    link_fails: u64,
+    second_fails: u64,
+    status: Status,
+    printed: &'static [u8],
+    /// How many datagrams are sent to each server.
+    sent: [usize; 2],
+}
+
+const SHARED_RUNS: [SharedRun; 3] = [
+    SharedRun {
+        link_fails: 0,
+        second_fails: 0,
+        status: Status::Done,
+        printed: b"turns 5 accepted 5 forwarded 4 answered 0\n",
+        sent: [2, 2],
+    },
+    // There is no twin for the second worker, and none is run.
+    SharedRun {
+        link_fails: 2,
+        second_fails: 0,
+        status: Status::LinkFault,
+        printed: b"",
+        sent: [0, 0],
+    },
+    // The second worker meets a fault, and the first goes on.
+    SharedRun {
+        link_fails: 0,
+        second_fails: 1,
+        status: Status::LinkFault,
+        printed: b"",
+        sent: [2, 2],
+    },
+];
+
+/// A lane with these items, of which this call fails.
+fn lane(alloc: Global, items: Items, fails: u64) -> Result<Lane, NoMemory> {
+    Ok(Lane {
+        items,
+        room: Room {
+            bytes: 1_000,
+            calls: 20,
+        },
+        fails: numbers(alloc, &[fails])?,
+    })
+}
+
+/// A link whose lanes for its first two twins have four requests and the fifth.
+fn shared_link(alloc: Global, run: &SharedRun) -> Result<MemLink, NoMemory> {
+    let own = lane(alloc, Items::from_vec(Vec::new(alloc)), run.link_fails)?;
+    let mut lanes = Vec::new(alloc);
+    lanes.push(lane(alloc, requests(alloc, 1, 5)?, 0)?)?;
+    lanes.push(lane(alloc, requests(alloc, 5, 6)?, run.second_fails)?)?;
+    MemLink::new(alloc, own, Lanes::from_vec(lanes))
+}
+
+/// How many of these datagrams go to the server at this place.
+fn sent_to(datagrams: &[Datagram], server: Addr) -> usize {
+    let mut count = 0usize;
+    for d in datagrams {
+        if d.to == server {
+            count = count.saturating_add(1);
+        }
+    }
+    count
+}
+
+/// Whether two workers run so.
+fn is_shared<R: Threads + Wait + Sync>(
+    rt: &R,
+    alloc: Global,
+    run: &SharedRun,
+) -> Result<bool, Fail> {
+    let mut link = shared_link(alloc, run)?;
+    let mut clock = MemClock::new(numbers(alloc, &[0])?, numbers(alloc, &[0])?);
+    let room = Room {
+        bytes: 100,
+        calls: 20,
+    };
+    let mut sink = MemSink::new(alloc, room, Numbers::from_vec(Vec::new(alloc)))?;
+    let servers = Addrs::from_vec(SERVERS.to_vec(alloc)?);
+    let pace = Pace {
+        tick_ms: 100,
+        turns: 9,
+    };
+    let ended = serve_router(
+        rt, alloc, ROUTER, servers, 2, 2, &mut sink, &mut link, &mut clock, pace,
+    );
+    let sent = link.sent(alloc)?;
+    let to_first = sent_to(sent.as_slice(), SERVERS[0]);
+    let to_second = sent_to(sent.as_slice(), SERVERS[1]);
+    Ok(
+        ended == run.status
+            && sink.written() == run.printed
+            && to_first == run.sent[0]
+            && to_second == run.sent[1],
+    )
+}
+
+#[test]
+fn two_workers_share_a_router(rt: HostRuntime) -> Result<(), Fail> {
+    for run in SHARED_RUNS {
+        assert!(rt; is_shared(&rt, rt.alloc(), &run)?);
     }
     Ok(())
 }

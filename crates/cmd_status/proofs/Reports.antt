@@ -6,7 +6,7 @@ use Rattle.r2_link.specs.Streams.{AppendsPrefix}
 use Rattle.r2_link.proofs.Faults.{then-Rose}
 use Rattle.r2_link.proofs.Streams.{Appends-nil, Appends-trans, AppendsPrefix-longer, AppendsPrefix-then}
 use Rattle.cmd_status.specs.declared.status.Status.{Status}
-use Rattle.cmd_status.specs.declared.status.Status.TheVariants.{Done, BadWords, BadScript, Memory, SourceFault, SinkFault, LinkFault, DiskFault, ClockFault, TimedOut, IdsUsed, TurnsSpent}
+use Rattle.cmd_status.specs.declared.status.Status.TheVariants.{Done, BadWords, BadScript, JournalDamaged, Memory, SourceFault, SinkFault, LinkFault, DiskFault, ClockFault, TimedOut, IdsUsed, TurnsSpent}
 use Rattle.cmd_status.specs.Texts.{cause_text, error_text}
 use Rattle.cmd_status.specs.Stops.{StopsBySink, HasSinkCause}
 
@@ -45,6 +45,7 @@ error_text-line TimedOut other = refl
 error_text-line IdsUsed other = refl
 error_text-line TurnsSpent other = refl
 error_text-line (BadScript line) other = refl
+error_text-line (JournalDamaged at) other = refl
 
 pub done_says_nothing : (a : Option (List ℕ)) (status : Status) → status ≡ Done → Appends a a (error_text status)
 done_says_nothing a status done = subst (Appends a a) (sym (error_text-done status done)) (Appends-nil a)
@@ -68,6 +69,7 @@ then_stops a b c TimedOut on never = never
 then_stops a b c IdsUsed on never = never
 then_stops a b c TurnsSpent on never = never
 then_stops a b c (BadScript line) on never = never
+then_stops a b c (JournalDamaged at) on never = never
 
 -- where printing stopped, the sink failed if the status says so
 pub sink_cause : (faults faults' : ℕ) (status : Status) → StopsBySink faults faults' status → HasSinkCause faults faults' status
@@ -83,3 +85,4 @@ sink_cause f f' TimedOut why = tt
 sink_cause f f' IdsUsed why = tt
 sink_cause f f' TurnsSpent why = tt
 sink_cause f f' (BadScript n) why = tt
+sink_cause f f' (JournalDamaged at) why = tt

@@ -4,7 +4,7 @@ use Rattle.std.specs.Io.KnownBytes.{Appends}
 use Rattle.r2_link.specs.Faults.{Rose}
 use Rattle.r2_link.specs.Streams.{AppendsPrefix}
 use Rattle.cmd_status.specs.declared.status.Status.{Status}
-use Rattle.cmd_status.specs.declared.status.Status.TheVariants.{Done, BadWords, BadScript, Memory, SourceFault, SinkFault, LinkFault, DiskFault, ClockFault, TimedOut, IdsUsed, TurnsSpent}
+use Rattle.cmd_status.specs.declared.status.Status.TheVariants.{Done, BadWords, BadScript, JournalDamaged, Memory, SourceFault, SinkFault, LinkFault, DiskFault, ClockFault, TimedOut, IdsUsed, TurnsSpent}
 
 -- printing stops where the sink failed or memory ran out, and for no other cause
 abbrev pub StopsBySink : ℕ → ℕ → Status → Type 0
@@ -13,6 +13,7 @@ StopsBySink old new Memory = Unit {0}
 StopsBySink old new Done = ⊥
 StopsBySink old new BadWords = ⊥
 StopsBySink old new (BadScript line) = ⊥
+StopsBySink old new (JournalDamaged at) = ⊥
 StopsBySink old new SourceFault = ⊥
 StopsBySink old new LinkFault = ⊥
 StopsBySink old new DiskFault = ⊥

@@ -2,13 +2,14 @@
 use Rattle.std.specs.Prelude.{ℕ, List, [], ◌∷◌, ◌++◌, codes}
 use Rattle.std.specs.Fmt.{decimal}
 use Rattle.cmd_status.specs.declared.status.Status.{Status}
-use Rattle.cmd_status.specs.declared.status.Status.TheVariants.{Done, BadWords, BadScript, Memory, SourceFault, SinkFault, LinkFault, DiskFault, ClockFault, TimedOut, IdsUsed, TurnsSpent}
+use Rattle.cmd_status.specs.declared.status.Status.TheVariants.{Done, BadWords, BadScript, JournalDamaged, Memory, SourceFault, SinkFault, LinkFault, DiskFault, ClockFault, TimedOut, IdsUsed, TurnsSpent}
 
 -- a status as the program's exit code
 abbrev pub code_of : Status → ℕ
 code_of Done = 0
 code_of BadWords = 64
 code_of (BadScript line) = 65
+code_of (JournalDamaged at) = 66
 code_of Memory = 70
 code_of SourceFault = 71
 code_of SinkFault = 72
@@ -24,6 +25,7 @@ abbrev pub cause_text : Status → List ℕ
 cause_text Done = []
 cause_text BadWords = codes "words not understood"
 cause_text (BadScript line) = codes "line " ++ decimal line ++ codes ": not a script line"
+cause_text (JournalDamaged at) = codes "journal damaged at " ++ decimal at
 cause_text Memory = codes "out of memory"
 cause_text SourceFault = codes "the source failed"
 cause_text SinkFault = codes "the sink failed"

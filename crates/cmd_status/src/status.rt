@@ -20,6 +20,8 @@ pub enum Status {
     BadWords,
     /// The line with this number, counted from 1, is no line of a script.
     BadScript { line: u64 },
+    /// The file of a replica's journal isn't a journal: this is the offset of the first gate at which that shows.
+    JournalDamaged { at: u64 },
     /// There was too little memory.
     Memory,
     /// What the command reads couldn't be read on.
@@ -28,7 +30,7 @@ pub enum Status {
     SinkFault,
     /// A socket couldn't be opened, or failed to send or to receive.
     LinkFault,
-    /// A record couldn't be stored.
+    /// The file of a journal couldn't be opened, read or written on.
     DiskFault,
     /// The time couldn't be read.
     ClockFault,
@@ -49,6 +51,7 @@ impl Status {
             Status::Done => 0,
             Status::BadWords => 64,
             Status::BadScript { .. } => 65,
+            Status::JournalDamaged { .. } => 66,
             Status::Memory => 70,
             Status::SourceFault => 71,
             Status::SinkFault => 72,
@@ -70,6 +73,7 @@ impl fmt::Display for Status {
             Status::Done => Ok(()),
             Status::BadWords => f.write_str("words not understood"),
             Status::BadScript { line } => write!(f, "line {line}: not a script line"),
+            Status::JournalDamaged { at } => write!(f, "journal damaged at {at}"),
             Status::Memory => f.write_str("out of memory"),
             Status::SourceFault => f.write_str("the source failed"),
             Status::SinkFault => f.write_str("the sink failed"),
@@ -127,6 +131,7 @@ fn write_cause<E: Sink>(errors: &mut E, status: Status) -> Result<(), Failed>
         Status::Done => Ok(()),
         Status::BadWords => write_all(errors, b"words not understood"),
         Status::BadScript { line } => write_at_line(errors, line, b": not a script line"),
+        Status::JournalDamaged { at } => write_damage(errors, at),
         Status::Memory => write_all(errors, b"out of memory"),
         Status::SourceFault => write_all(errors, b"the source failed"),
         Status::SinkFault => write_all(errors, b"the sink failed"),
@@ -151,6 +156,17 @@ fn write_at_line<E: Sink>(errors: &mut E, line: u64, said: &[u8]) -> Result<(), 
     write_all(errors, said)
 }
 
+/// Writes that a journal is damaged, and where.
+fn write_damage<E: Sink>(errors: &mut E, at: u64) -> Result<(), Failed>
+    ensures whole { OnOk result (Appends (E.written errors.old) (E.written errors.new) (codes "journal damaged at " ++ decimal at)) }
+    ensures prefix { AppendsPrefix (E.written errors.old) (E.written errors.new) (codes "journal damaged at " ++ decimal at) }
+    ensures steady { E.faults errors.old ≤ E.faults errors.new }
+    ensures cause { OnErr result (Rose (E.faults errors.old) (E.faults errors.new)) }
+{
+    write_all(errors, b"journal damaged at ")?;
+    write_decimal(errors, at)
+}
+
 /// Writes a number in decimal, which takes no memory.
 pub fn write_decimal<K: Sink>(sink: &mut K, n: u64) -> Result<(), Failed>
     ensures whole { OnOk result (Appends (K.written sink.old) (K.written sink.new) (decimal n)) }
@@ -169,13 +185,18 @@ mod tests {
     use r2_link::MemSink;
     use std::test::Fail;
 
-    const ENDS: [(Status, u8, &[u8]); 12] = [
+    const ENDS: [(Status, u8, &[u8]); 13] = [
         (Status::Done, 0, b""),
         (Status::BadWords, 64, b"r2p2_suite: words not understood\n"),
         (
             Status::BadScript { line: 2 },
             65,
             b"r2p2_suite: line 2: not a script line\n",
+        ),
+        (
+            Status::JournalDamaged { at: 44 },
+            66,
+            b"r2p2_suite: journal damaged at 44\n",
         ),
         (Status::Memory, 70, b"r2p2_suite: out of memory\n"),
         (Status::SourceFault, 71, b"r2p2_suite: the source failed\n"),

@@ -6,3 +6,4 @@ pub mod MoreSteps
 pub mod GoneOver
 pub mod Reading
 pub mod Crashed
+pub mod Outcomes

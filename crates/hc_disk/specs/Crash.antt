@@ -1,7 +1,7 @@
 -- What a crash leaves of a disk in memory, by a pick of what becomes of the changes since the last sync of each file.
 use Rattle.std.specs.Prelude.{◌≡◌, ℕ, Bool, nat_eq, List, [], ◌∷◌, length, replicate, if◌then◌else◌}
 use Rattle.hc_disk.specs.declared.stored.StoredFile.{StoredFile}
-use Rattle.hc_disk.specs.Disk.{Change, Wrote, Cut, File, Moments, changed}
+use Rattle.hc_disk.specs.Disk.{Change, Wrote, Cut, File, MayLeave, Moments, changed}
 use Rattle.hc_disk.specs.MemDisk.{Call, Selected, Put, Shortened, Synced, file_of}
 
 -- a change that is made, with this byte at each place that it writes
@@ -24,6 +24,10 @@ left_by pick f = all_picked pick f.stable f.since
 -- of each file of a disk just that is left, and it is stable
 abbrev pub AreLeft : ℕ → Moments → List StoredFile → Type 0
 AreLeft pick t files = (name : List ℕ) → file_of files name ≡ record { stable = left_by pick (t.now.files name); since = [] }
+
+-- of each file of a disk a crash may leave what the one of its name has
+abbrev pub MayBeLeft : Moments → List StoredFile → Type 0
+MayBeLeft t files = (name : List ℕ) → MayLeave (t.now.files name) (file_of files name).stable
 
 -- what is left after a call, by what a read gave before it and what was left then, of a file that is the selected one or isn't
 abbrev pub left_after : ℕ → Call → Bool → List ℕ → List ℕ → List ℕ

@@ -1,9 +1,9 @@
-ghost use Rattle.std.specs.Prelude.{◌≡◌, ◌++◌, ◌∷◌, [], true, ℕ, List, All, IfOk, OnOk, length};
+ghost use Rattle.std.specs.Prelude.{◌≡◌, ◌++◌, ◌∷◌, [], true, ℕ, List, All, IfOk, OnOk, length, map};
 ghost use Rattle.hc_disk.specs.declared.stored.StoredFile.{StoredFile as StoredFileSpec};
 ghost use Rattle.hc_disk.specs.Disk.{Cut, Wrote, changed};
-ghost use Rattle.hc_disk.specs.MemDisk.{call_of};
+ghost use Rattle.hc_disk.specs.MemDisk.{IsSound, call_of};
 ghost use Rattle.hc_disk.specs.Replay.{moments_at};
-ghost use Rattle.hc_disk.specs.Crash.{AreLeft, content_after, left_after, left_by, picked};
+ghost use Rattle.hc_disk.specs.Crash.{AreLeft, MayBeLeft, content_after, left_after, left_by, picked};
 ghost use Rattle.hc_disk.specs.Names.{AreOf, HasName, HasSelected, left_file};
 
 use crate::replay::{next_name, stored_bytes};
@@ -20,7 +20,9 @@ pub(crate) fn files_left(
     steps: &[Step],
     pick: u8,
 ) -> Result<Files, NoMemory>
-    ensures { IfOk result (λ files. AreLeft pick (moments_at first.now pieces.now steps.now) files) }
+    requires sound { IsSound first.now (map (call_of pieces.now) steps.now) }
+    ensures left { IfOk result (λ files. AreLeft pick (moments_at first.now pieces.now steps.now) files) }
+    ensures may { IfOk result (λ files. MayBeLeft (moments_at first.now pieces.now steps.now) files) }
 {
     let mut files = Vec::new(alloc);
     push_first(alloc, first, pieces, steps, pick, &mut files)?;

@@ -10,11 +10,12 @@ use std::path::Path;
 
 /// One file of the system, by its path. It doesn't report what it holds, and before its first `select` each other call fails.
 ///
-/// A sync makes the file stable, and then its entry in its folder.
+/// A sync makes the file stable, and the first one after a `select` its entry in its folder too.
 #[derive(Drop)]
 pub struct FileDisk<'a, R: Files<File = File> + Sync> {
     rt: &'a R,
     file: Option<File>,
+    /// The folder in which the file's entry may not be stable yet.
     folder: Option<File>,
     faults: u64,
 }
@@ -100,8 +101,9 @@ impl<'a, R: Files<File = File> + Sync> Disk for FileDisk<'a, R> {
     }
 
     fn sync(&mut self) -> Result<(), Failed> {
-        if is_synced(&self.file) {
-            if is_synced(&self.folder) {
+        if is_file_synced(&self.file) {
+            if is_folder_synced(&self.folder) {
+                self.folder = None;
                 return Ok(());
             }
         }
@@ -110,11 +112,19 @@ impl<'a, R: Files<File = File> + Sync> Disk for FileDisk<'a, R> {
     }
 }
 
-/// Whether there is a file, which was synced.
-fn is_synced(file: &Option<File>) -> bool {
+/// Whether there is a file, whose bytes and length were synced.
+fn is_file_synced(file: &Option<File>) -> bool {
     match file {
-        Some(file) => file.sync_all().is_ok(),
+        Some(file) => file.sync_data().is_ok(),
         None => false,
+    }
+}
+
+/// Whether no folder is left to be synced.
+fn is_folder_synced(folder: &Option<File>) -> bool {
+    match folder {
+        Some(folder) => folder.sync_all().is_ok(),
+        None => true,
     }
 }
 
@@ -152,6 +162,7 @@ mod tests {
         assert_eq!(rt; disk.read_at(4, &mut into), Ok(4));
         assert_eq!(rt; &into[..4], b"4xyz".as_slice());
         assert_eq!(rt; disk.cut(3), Ok(()));
+        assert_eq!(rt; disk.sync(), Ok(()));
         assert_eq!(rt; disk.length(), Ok(3));
         assert_eq!(rt; disk.read_at(3, &mut into), Ok(0));
         remove_file(&rt, NAME)?;

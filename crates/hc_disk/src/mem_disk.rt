@@ -4,7 +4,7 @@ ghost use Rattle.r2_link.specs.Faults.{Rose};
 ghost use Rattle.r2_link.specs.Memory.{IsTooSmall};
 ghost use Rattle.hc_disk.specs.Disk.{now_content, synced, with_file, with_selected};
 ghost use Rattle.hc_disk.specs.Calls.{Cuts, Makes, Reads, Writes};
-ghost use Rattle.hc_disk.specs.Crash.{AreLeft};
+ghost use Rattle.hc_disk.specs.Crash.{AreLeft, MayBeLeft};
 ghost use Rattle.hc_disk.specs.MemDisk.{Put, Selected, Shortened, Synced, identity_of, moments_of, new_disk, told_by, with_call, with_fault, with_look};
 
 use crate::Disk;
@@ -69,6 +69,9 @@ impl MemDisk {
     pub fn after_crash(&self, alloc: Global, pick: u8) -> Result<MemDisk, NoMemory>
         ensures fresh { IfOk result (λ disk. disk ≡ new_disk disk.first self.now.given []) }
         ensures left { IfOk result (λ disk. AreLeft pick (moments_of self.now.first self.now.done) disk.first) }
+
+        // That is one of the outcomes of a crash.
+        ensures may { IfOk result (λ disk. MayBeLeft (moments_of self.now.first self.now.done) disk.first) }
     {
         let first = self.first.as_slice();
         let pieces = self.pieces.as_slice();

@@ -1,3 +1,4 @@
+pub mod Stretches
 pub mod Appending
 pub mod Rows
 pub mod Settled

@@ -6,3 +6,4 @@ pub mod Props
 pub mod RowReading
 pub mod Recovery
 pub mod FileLaws
+pub mod Since

@@ -6,6 +6,7 @@ ghost use Rattle.hc_disk.specs.Runs.{LeavesOnly, SinceThen};
 ghost use Rattle.hc_log.specs.Ranges.{IsInRange};
 ghost use Rattle.hc_journal.specs.Journal.{FitsTold, EndsAs};
 ghost use Rattle.hc_file_journal.specs.FileJournal.{IsSettled, IsWithOrWithout, LeavesJournal, kept_records};
+ghost use Rattle.hc_file_journal.specs.Since.{Ran, ran_nothing, ran_then};
 ghost use Rattle.hc_file_journal.specs.Props.{KeepsVote-prop, NamesReplier-prop, FitsKind-prop};
 
 use crate::framing::framed_bytes;
@@ -46,6 +47,14 @@ impl<D: Disk> Journal for FileJournal<D> {
 
     ghost faults = { λ j. D.faults j.disk };
 
+    ghost identity = { λ j. D.identity j.disk };
+
+    ghost since = { λ old new. Ran old.end new.end new.ended (D.told old.disk) (D.told new.disk) };
+
+    ghost begins = { λ j. ran_nothing j.end j.ended (D.told j.disk) };
+
+    ghost joins = { λ old between new. ran_then old.end between.end new.end between.ended new.ended (D.told old.disk) (D.told between.disk) (D.told new.disk) };
+
     fn append(&mut self, alloc: Global, r: &Record) -> Result<(), JournalFault>
         requires in_range { IsInRange r.now }
         requires next { FitsTold (option_map (kept_records self.old.end) (D.told self.old.disk)) r.now }
@@ -62,6 +71,7 @@ impl<D: Disk> Journal for FileJournal<D> {
         // Once the record is acknowledged, a crash leaves the journal of the records with it.
         ensures acknowledged { OnOk result (IfSome (D.told self.new.disk) (λ u. LeavesJournal (kept_records self.new.end u) u)) }
         ensures same { D.identity self.new.disk ≡ D.identity self.old.disk }
+        ensures since { Ran self.old.end self.new.end self.new.ended (D.told self.old.disk) (D.told self.new.disk) }
     {
         match self.ended {
             Some(first) => Err(JournalFault::Ended(first)),

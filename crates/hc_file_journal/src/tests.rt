@@ -1,7 +1,10 @@
+ghost use Rattle.std.specs.Prelude.{◌≡◌, ◌≤◌, IfOk, IfSome, Ok};
+ghost use Rattle.hc_log.specs.Durable.{replay};
+
 use crate::{FileJournal, RecoverFault};
 use hc_disk::{Disk, Files, MemDisk, StoredFile};
-use hc_journal::Journal;
-use hc_log::{Entries, Record, Stored};
+use hc_journal::{First, Journal, JournalFault};
+use hc_log::{Durable, Entries, Record, Stored};
 use r2_base::{Addr, Bytes, Entry, Kind, NoMemory, Numbers, Rid, Room};
 use std::alloc::{AllocError, Global};
 use std::test::Fail;
@@ -105,6 +108,20 @@ fn blank(alloc: Global, term: u64, keep: u64) -> Result<Record, NoMemory> {
     })
 }
 
+/// Stores the record, which leads from the state that the journal's records lead to.
+fn store(
+    journal: &mut FileJournal<MemDisk>,
+    durable: &mut Durable,
+    alloc: Global,
+    r: &Record,
+) -> Result<Result<(), JournalFault>, Fail>
+    requires { IfSome (⟦<FileJournal<MemDisk> as Journal>⟧.records journal.old) (λ records. durable.old.state ≡ replay records) }
+    ensures { result ≡ Ok (Ok tt) → IfSome (⟦<FileJournal<MemDisk> as Journal>⟧.records journal.new) (λ records. durable.new.state ≡ replay records) }
+{
+    durable.follow(r)?;
+    Ok(journal.append(alloc, r))
+}
+
 #[test]
 fn append_puts_the_record_after_the_gate(rt: HostRuntime) -> Result<(), Fail> {
     let alloc = rt.alloc();
@@ -114,10 +131,93 @@ fn append_puts_the_record_after_the_gate(rt: HostRuntime) -> Result<(), Fail> {
         Err(refused) => return Err(refused.fault.into()),
     };
     let r = blank(alloc, 1, 0)?;
-    durable.follow(&r)?;
-    assert_eq!(rt; journal.append(alloc, &r), Ok(()));
+    assert_eq!(rt; store(&mut journal, &mut durable, alloc, &r)?, Ok(()));
     let mut disk = journal.into_disk();
     let wanted = joined(alloc, &[&BEFORE, &R, &[0]])?;
     assert_eq!(rt; content(alloc, &mut disk)?.as_slice(), wanted.as_slice());
+    Ok(())
+}
+
+/// The answers to a record that is to be stored three times.
+fn store_thrice(
+    journal: &mut FileJournal<MemDisk>,
+    durable: &mut Durable,
+    alloc: Global,
+    r: &Record,
+) -> Result<[Result<(), JournalFault>; 3], Fail>
+    requires { IfSome (⟦<FileJournal<MemDisk> as Journal>⟧.records journal.old) (λ records. durable.old.state ≡ replay records) }
+{
+    durable.follow(r)?;
+    let first = journal.append(alloc, r);
+    if first.is_ok() {
+        return Err("a record that was stored".into());
+    }
+    let second = journal.append(alloc, r);
+    let third = if second.is_ok() {
+        second
+    } else {
+        journal.append(alloc, r)
+    };
+    Ok([first, second, third])
+}
+
+#[test]
+fn failed_append_ends_the_journal(rt: HostRuntime) -> Result<(), Fail> {
+    let alloc = rt.alloc();
+    // Six calls recover an empty disk; the ninth is the third of the first append.
+    let disk = disk_with(alloc, &[], &[9])?;
+    let (mut journal, mut durable) = match FileJournal::recover(alloc, disk) {
+        Ok(found) => found,
+        Err(refused) => return Err(refused.fault.into()),
+    };
+    let r = blank(alloc, 1, 0)?;
+    let ended = Err(JournalFault::Ended(First::Disk));
+    let wanted = [Err(JournalFault::Disk), ended, ended];
+    assert_eq!(rt;
+        store_thrice(&mut journal, &mut durable, alloc, &r)?,
+        wanted
+    );
+    Ok(())
+}
+
+/// How many records of `records` are acknowledged where call `k` of the disk fails, whether that ended the journal, and the disk.
+fn run_until(alloc: Global, k: u64, records: u64) -> Result<(u64, bool, MemDisk), Fail>
+    ensures { IfOk result (λ p. p.0 ≤ records) }
+{
+    let disk = disk_with(alloc, &[], &[k])?;
+    let (mut journal, mut durable) = match FileJournal::recover(alloc, disk) {
+        Ok(found) => found,
+        Err(refused) => return Ok((0, true, refused.disk)),
+    };
+    'records: for i in 0..records {
+        let r = blank(alloc, i + 1, i)?;
+        match store(&mut journal, &mut durable, alloc, &r)? {
+            Ok(()) => {}
+            Err(_) => return Ok((i, true, journal.into_disk())),
+        }
+    }
+    Ok((records, false, journal.into_disk()))
+}
+
+#[test]
+fn crash_at_each_call_loses_no_acknowledged_record(rt: HostRuntime) -> Result<(), Fail> {
+    let alloc = rt.alloc();
+    'calls: for k in 1..200 {
+        let (acknowledged, failed, disk) = run_until(alloc, k, 40)?;
+        'picks: for pick in [0, 1, 90] {
+            let left = disk.after_crash(alloc, pick)?;
+            let found = match FileJournal::recover(alloc, left) {
+                Ok((_, durable)) => durable.log().last(),
+                Err(refused) => return Err(refused.fault.into()),
+            };
+            assert!(rt;
+                found == acknowledged || found == acknowledged + 1,
+                "at {k}, {pick}"
+            );
+        }
+        if !failed {
+            return Ok(());
+        }
+    }
     Ok(())
 }

@@ -42,6 +42,12 @@ pub trait Journal: Drop {
     /// How often the journal has failed.
     ghost faults: { Self → ℕ };
 
+    /// Which journal it is, where it is one over a reference, so that what was done is known of what that refers to.
+    ghost identity: { Self → ℕ };
+
+    /// What happened, from a journal to what it became over any number of calls, to the place where its records are kept.
+    ghost since: { Self → Self → Type 0 };
+
     /// Stores a record after the others, which an `Ok` acknowledges.
     ///
     /// A failed call ends the journal: from then on each call answers the first cause, until the journal is recovered. The
@@ -54,7 +60,15 @@ pub trait Journal: Drop {
         ensures silent { records self.old ≡ None → records self.new ≡ None }
         ensures end { EndsAs (ended self.old) (ended self.new) result }
         ensures steady { faults self.old ≤ faults self.new }
-        ensures cause { result ≡ Err JournalFault.Disk → Rose (faults self.old) (faults self.new) };
+        ensures cause { result ≡ Err JournalFault.Disk → Rose (faults self.old) (faults self.new) }
+        ensures same { identity self.new ≡ identity self.old }
+        ensures since { since self.old self.new };
+
+    /// Over no call nothing happened.
+    ghost begins: { (journal : Self) → since journal journal };
+
+    /// Over some calls that didn't end the journal, and then over others, it is what happened over all of them.
+    ghost joins: { (old between new : Self) → ended between ≡ None → since old between → since between new → since old new };
 }
 
 impl fmt::Display for First {

@@ -1,4 +1,4 @@
-ghost use Rattle.std.specs.Prelude.{◌≡◌, ◌+◌, ◌≤◌, ◌↔◌, ◌++◌, ◌∷◌, [], Some, None, Contains, IsTrue, Err, OnOk, OnErr};
+ghost use Rattle.std.specs.Prelude.{⊤, ◌≡◌, ◌+◌, ◌≤◌, ◌↔◌, ◌++◌, ◌∷◌, [], Some, None, Contains, IsTrue, Err, OnOk, OnErr};
 ghost use Rattle.r2_link.specs.Faults.{Rose, counted, counted_where};
 ghost use Rattle.r2_link.specs.Told.{IsKept, Gains};
 ghost use Rattle.hc_log.specs.Durable.{IsHistory};
@@ -71,6 +71,14 @@ impl Journal for MemJournal {
     ghost ended = { λ j. j.ended };
 
     ghost faults = { λ j. j.faults };
+
+    ghost identity = { λ j. 0 };
+
+    ghost since = { λ old new. ⊤ };
+
+    ghost begins = { λ j. tt };
+
+    ghost joins = { λ old between new going first second. tt };
 
     fn append(&mut self, alloc: Global, r: &Record) -> Result<(), JournalFault>
         requires in_range { IsInRange r.now }

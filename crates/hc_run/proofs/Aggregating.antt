@@ -14,16 +14,16 @@ use Rattle.hc_order.proofs.Greatest.{is_counted}
 use Rattle.hc_aggregate.specs.Group.{address_of, is_from_member, majority}
 use Rattle.hc_aggregate.specs.Tally.{Tally, begun, found, is_news, most_reached, reached_by, with_found, with_reached}
 use Rattle.hc_aggregate.specs.Turn.{Outcome, Telling, commit_told, counts, hear_ack, hear_order, nothing, takes_ack, takes_order, tell_each}
-use Rattle.hc_world.specs.Conditions.{MayCollect, MayFollow, MayNoteOrder}
-use Rattle.hc_world.specs.Kept.{Kept}
-use Rattle.hc_world.specs.Log.{In}
-use Rattle.hc_world.specs.Majority.{tally}
-use Rattle.hc_world.specs.Message as message
-use Rattle.hc_world.specs.Protocol.{ProtocolState, acked, put, told}
-use Rattle.hc_world.specs.Rules.{Aggregate, Collect, Follow, NoteOrder, Rule, after}
-use Rattle.hc_world.specs.Runs.{AllAllowed}
-use Rattle.hc_world.proofs.Puts.{same_or_not, self}
-use Rattle.hc_world.proofs.Steps.{steps_keep}
+use Rattle.hc_rules.specs.Conditions.{MayCollect, MayFollow, MayNoteOrder}
+use Rattle.hc_rules.specs.Kept.{Kept}
+use Rattle.hc_rules.specs.Log.{In}
+use Rattle.hc_rules.specs.Majority.{tally}
+use Rattle.hc_rules.specs.Message as message
+use Rattle.hc_rules.specs.Protocol.{ProtocolState, acked, put, told}
+use Rattle.hc_rules.specs.Rules.{Aggregate, Collect, Follow, NoteOrder, Rule, after}
+use Rattle.hc_rules.specs.Runs.{AllAllowed}
+use Rattle.hc_rules.proofs.Puts.{same_or_not, self}
+use Rattle.hc_rules.proofs.Steps.{steps_keep}
 use Rattle.hc_run.specs.Aggregating.{AggregatingIsRules, IsAggregatorSteps, IsTold, IsToldTo, ShowsTally}
 use Rattle.hc_run.specs.Rows.{ByAggregator, maker}
 use Rattle.hc_run.proofs.Counting.{tally-by, tally-weaker}
@@ -52,7 +52,7 @@ first members w o r own may passed reports steps =
           };
     }
 
-zeros : (n p : ℕ) → slice_index_or (replicate {A = ℕ} n 0) p 0 ≡ 0
+pub zeros : (n p : ℕ) → slice_index_or (replicate {A = ℕ} n 0) p 0 ≡ 0
 zeros n p =
     elim (cases_lt p n) [
       | inl inside ↦ get_or-replicate n p 0 0 inside

@@ -26,9 +26,9 @@ use Rattle.hc_member.specs.Setup.{address_of, is_from_member}
 use Rattle.hc_member.specs.Turn.{row}
 use Rattle.hc_member.proofs.Answers.{find-All, find-passes}
 use Rattle.hc_member.proofs.Rows.{goes-row}
-use Rattle.hc_world.specs.Log.{In}
-use Rattle.hc_world.specs.Message as world
-use Rattle.hc_world.specs.Protocol.{ProtocolState}
+use Rattle.hc_rules.specs.Log.{In}
+use Rattle.hc_rules.specs.Message as world
+use Rattle.hc_rules.specs.Protocol.{ProtocolState}
 use Rattle.hc_run.specs.Backed.{IsBacked}
 use Rattle.hc_run.specs.Held.{IsAskedIn, IsStoredOf}
 use Rattle.hc_run.specs.Rows.{RowIsRules}

@@ -9,10 +9,10 @@ use Rattle.hc_member.specs.Outcome.{Outcome, nothing}
 use Rattle.hc_member.specs.Reports.{report_in}
 use Rattle.hc_member.specs.Sound.{IsSound}
 use Rattle.hc_member.specs.Turn.{where_fits}
-use Rattle.hc_world.specs.Conditions.{CanAct}
-use Rattle.hc_world.specs.Log.{In}
-use Rattle.hc_world.specs.Message.{Report, Reply, Request}
-use Rattle.hc_world.specs.Protocol.{ProtocolState}
+use Rattle.hc_rules.specs.Conditions.{CanAct}
+use Rattle.hc_rules.specs.Log.{In}
+use Rattle.hc_rules.specs.Message.{Report, Reply, Request}
+use Rattle.hc_rules.specs.Protocol.{ProtocolState}
 use Rattle.hc_run.specs.Backed.{IsBacked}
 use Rattle.hc_run.specs.Held.{Holds, IsLed, WasReplied}
 use Rattle.hc_run.specs.Rows.{HearsSent, IsRow}

@@ -11,13 +11,13 @@ use Rattle.hc_member.specs.declared.heard.Heard.TheVariants.{Nothing, Whole, Tol
 use Rattle.hc_member.specs.Member.{Member}
 use Rattle.hc_member.specs.Sending.{Sending, Tell, Recover, Reply as ReplyTo}
 use Rattle.hc_member.specs.Setup.{own_address}
-use Rattle.hc_world.specs.Kept.{Kept}
-use Rattle.hc_world.specs.Message.{Passed, Report, Request}
-use Rattle.hc_world.specs.Parts.{Grows}
-use Rattle.hc_world.specs.Protocol.{ProtocolState}
-use Rattle.hc_world.specs.Rules.{Rule, SendRequest, after}
-use Rattle.hc_world.specs.Runs.{after_rules}
-use Rattle.hc_world.proofs.RuleLists.{allowed_in_parts, rules_answer, rules_keep, rules_only_add, steps_follow}
+use Rattle.hc_rules.specs.Kept.{Kept}
+use Rattle.hc_rules.specs.Message.{Passed, Report, Request}
+use Rattle.hc_rules.specs.Parts.{Grows}
+use Rattle.hc_rules.specs.Protocol.{ProtocolState}
+use Rattle.hc_rules.specs.Rules.{Rule, SendRequest, after}
+use Rattle.hc_rules.specs.Runs.{after_rules}
+use Rattle.hc_rules.proofs.RuleLists.{allowed_in_parts, rules_answer, rules_keep, rules_only_add, steps_follow}
 use Rattle.hc_run.specs.Backed.{IsAbout, IsBacked, IsHeardOf, IsSentAs}
 use Rattle.hc_run.specs.Halves.{IsSteps, Stands}
 use Rattle.hc_run.specs.Rows.{AreBy, ByMember, maker}

@@ -16,12 +16,12 @@ use Rattle.hc_member.specs.Sound.{IsSound}
 use Rattle.hc_member.specs.Turn.{agreed_index, counting}
 use Rattle.hc_member.proofs.ReportRows.{leading}
 use Rattle.hc_member.proofs.Settled.{counted-leader}
-use Rattle.hc_world.specs.Majority.{tally}
-use Rattle.hc_world.specs.Message.{Passed, Report}
-use Rattle.hc_world.specs.Protocol.{ProtocolState, acked}
-use Rattle.hc_world.specs.Rules.{CommitByCount, after}
-use Rattle.hc_world.specs.Runs.{after_rules}
-use Rattle.hc_world.proofs.Puts.{same_or_not, self}
+use Rattle.hc_rules.specs.Majority.{tally}
+use Rattle.hc_rules.specs.Message.{Passed, Report}
+use Rattle.hc_rules.specs.Protocol.{ProtocolState, acked}
+use Rattle.hc_rules.specs.Rules.{CommitByCount, after}
+use Rattle.hc_rules.specs.Runs.{after_rules}
+use Rattle.hc_rules.proofs.Puts.{same_or_not, self}
 use Rattle.hc_run.specs.Backed.{IsBacked}
 use Rattle.hc_run.specs.Halves.{CountingIsRules, IsSteps, Stands}
 use Rattle.hc_run.proofs.Common.{holds-on}

@@ -15,15 +15,15 @@ use Rattle.hc_member.specs.Member.{Member}
 use Rattle.hc_member.specs.Outcome.{Outcome}
 use Rattle.hc_member.specs.Setup.{IsSetup, address_of, majority}
 use Rattle.hc_member.specs.Votes.{is_elected, wins, wins_if_elected}
-use Rattle.hc_world.specs.Conditions.{MayWin}
-use Rattle.hc_world.specs.Kept.{Kept}
-use Rattle.hc_world.specs.Log as world
-use Rattle.hc_world.specs.Majority.{IsMajority, tally}
-use Rattle.hc_world.specs.Parts.{member_of}
-use Rattle.hc_world.specs.Protocol.{ProtocolState, Leader, indexes_of, is_to, put, reported}
-use Rattle.hc_world.specs.Rules.{CountVote, Win, after}
-use Rattle.hc_world.proofs.Puts.{other, put_same, same_or_not, self}
-use Rattle.hc_world.proofs.Steps.{steps_keep}
+use Rattle.hc_rules.specs.Conditions.{MayWin}
+use Rattle.hc_rules.specs.Kept.{Kept}
+use Rattle.hc_rules.specs.Log as world
+use Rattle.hc_rules.specs.Majority.{IsMajority, tally}
+use Rattle.hc_rules.specs.Parts.{member_of}
+use Rattle.hc_rules.specs.Protocol.{ProtocolState, Leader, indexes_of, is_to, put, reported}
+use Rattle.hc_rules.specs.Rules.{CountVote, Win, after}
+use Rattle.hc_rules.proofs.Puts.{other, put_same, same_or_not, self}
+use Rattle.hc_rules.proofs.Steps.{steps_keep}
 use Rattle.hc_run.specs.Held.{IsAmong, IsLed, IsStoredOf}
 use Rattle.hc_run.specs.Tied.{IsTied}
 use Rattle.hc_run.proofs.Metas.{length-metas}

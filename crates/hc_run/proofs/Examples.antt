@@ -37,7 +37,7 @@ use Rattle.hc_member.specs.Turn.{counting, ordering, reacted, reacted_to, row, s
 use Rattle.hc_member.specs.Votes.{hear_vote, hear_vote_request, rise_to, stands, votes_on, wins}
 use Rattle.hc_member.specs.Worked.{address, get_a, rid}
 use Rattle.hc_member.proofs.Examples.{nothing_there}
-use Rattle.hc_world.specs.Message.{Reply}
+use Rattle.hc_rules.specs.Message.{Reply}
 use Rattle.hc_run.specs.Group.{Group, Member, receiver_at}
 use Rattle.hc_run.specs.Steps.{asked, crashes_in_turn, index_in, makes_turn, request_parts, step, with_finished, with_heard, with_sent}
 use Rattle.hc_run.specs.Runs.{run}

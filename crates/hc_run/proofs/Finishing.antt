@@ -4,12 +4,7 @@ use Rattle.std.specs.Prelude.{All, fold, if◌then◌else◌}
 use Rattle.std.proofs.lemmas.List.{map-append}
 use Rattle.std.proofs.lemmas.List.Elements.{All-cons, All-drop, All-head, All-nil, All-push, All-tail}
 use Rattle.r2_base.specs.declared.entry.Entry.{Entry}
-use Rattle.r2_base.specs.declared.entry.Kind.{Kind}
-use Rattle.r2_base.specs.declared.entry.Kind.TheVariants.{Blank, Write, Read}
 use Rattle.r2_base.specs.declared.rid.Rid.{Rid}
-use Rattle.r2_base.specs.Entry.{is_request}
-use Rattle.r2_base.specs.Names.{same_rid}
-use Rattle.r2_base.proofs.SameNames.{same_rid-same, same_rid-true}
 use Rattle.r2_frag.specs.declared.kept.KeptReply.{KeptReply}
 use Rattle.r2_frag.specs.Kept.{kept_with, most_kept}
 use Rattle.hc_log.specs.declared.stored.Stored.{Stored}
@@ -34,82 +29,34 @@ use Rattle.hc_member.specs.Setup.{IsSetup}
 use Rattle.hc_member.specs.Sound.{IsSound}
 use Rattle.hc_member.proofs.Finished.{finishes, replies_are_one_thread}
 use Rattle.hc_member.proofs.ReportRows.{leading}
-use Rattle.hc_world.specs.Conditions.{MayAnswer, MayApply}
-use Rattle.hc_world.specs.Kept.{Kept}
-use Rattle.hc_world.specs.Log as world
-use Rattle.hc_world.specs.Log.{In}
-use Rattle.hc_world.specs.Message.{Passed as WorldPassed, Reply, Report, Request}
-use Rattle.hc_world.specs.Parts.{member_of}
-use Rattle.hc_world.specs.Protocol.{ProtocolState}
-use Rattle.hc_world.specs.Requests.{At, body_of, entry_body, operations as world_operations}
-use Rattle.hc_world.specs.Rules.{Answer as AnswerRule, Apply, NoteOwnReport, after}
-use Rattle.hc_world.proofs.Puts.{put_same}
-use Rattle.hc_world.proofs.Steps.{steps_keep}
+use Rattle.hc_rules.specs.Conditions.{MayAnswer, MayApply}
+use Rattle.hc_rules.specs.Kept.{Kept}
+use Rattle.hc_rules.specs.Log as world
+use Rattle.hc_rules.specs.Log.{In}
+use Rattle.hc_rules.specs.Message.{Passed as WorldPassed, Reply, Report}
+use Rattle.hc_rules.specs.Parts.{member_of}
+use Rattle.hc_rules.specs.Protocol.{ProtocolState}
+use Rattle.hc_rules.specs.Requests.{operations as world_operations}
+use Rattle.hc_rules.specs.Rules.{Answer as AnswerRule, Apply, NoteOwnReport, after}
+use Rattle.hc_rules.proofs.Puts.{put_same}
+use Rattle.hc_rules.proofs.Steps.{steps_keep}
 use Rattle.hc_run.specs.Backed.{IsBacked}
 use Rattle.hc_run.specs.Halves.{FinishIsRules, IsSteps, Stands, passed_by}
-use Rattle.hc_run.specs.Held.{IsLed, IsStoredOf, WasReplied}
+use Rattle.hc_run.specs.Held.{IsLed, WasReplied}
 use Rattle.hc_run.specs.State.{Passed}
 use Rattle.hc_run.specs.Steps.{index_in, own_report, passes, reply_from}
-use Rattle.hc_run.specs.Tied.{IsTied, passed_in, request_of}
+use Rattle.hc_run.specs.Tied.{IsTied, passed_in}
 use Rattle.hc_run.proofs.Common.{holds-on}
 use Rattle.hc_run.proofs.Counting.{steps-of}
 use Rattle.hc_run.proofs.Metas.{entry-metas, index-reply}
 use Rattle.hc_run.proofs.Queues.{led-report}
+use Rattle.hc_run.proofs.TableBodies.{operations-whole, whole-stored}
 use Rattle.hc_run.proofs.Ties.{tie-rest}
 use Rattle.hc_run.proofs.Ways.{IsLike, IsWay, acts, like_of, way-end, way-first}
 
--- Bodies by the table --
-
--- no request id is found twice in a table
-abbrev pub IsDistinct : List Request → Type 0
-IsDistinct table = (i k : ℕ) (q r : Request) → At table i q → At table k r → q.rid ≡ r.rid → i ≡ k
-
-pub at-in : (table : List Request) (q : Request) → In q table → (place : ℕ) × At table place q
-at-in [] q there = absurd there
-at-in (r ∷ more) q (inl same) = (zero, sym same)
-at-in (r ∷ more) q (inr later) = let found = at-in more q later in (suc found.0, found.1)
-
-pub distinct-rest : (r : Request) (more : List Request) → IsDistinct (r ∷ more) → IsDistinct more
-distinct-rest r more distinct i k q p a b same = let e = distinct (suc i) (suc k) q p a b same in omega (arith, e)
-
-body-in : (table : List Request) (q : Request) → IsDistinct table → In q table → body_of table q.rid ≡ q.body
-body-in [] q distinct there = absurd there
-body-in (r ∷ more) q distinct (inl same) =
-    let found : same_rid q.rid r.rid ≡ true = rw same (same_rid-same r.rid) in
-    rw found (ap (λ (x : Request). x.body) (sym same))
-body-in (r ∷ more) q distinct (inr later) = by (same_rid q.rid r.rid) refl (body-in more q (distinct-rest r more distinct) later)
-  where
-    by : (b : Bool) → same_rid q.rid r.rid ≡ b → body_of more q.rid ≡ q.body → (if b then r.body else body_of more q.rid) ≡ q.body
-    by true e rest =
-        let found = at-in more q later in
-        let clash = distinct zero (suc found.0) r q refl found.1 (sym (same_rid-true q.rid r.rid e)) in
-        absurd (omega (arith, clash))
-    by false e rest = rest
-
-body-same : (table : List Request) (x : Stored) (k : Kind) → x.entry.kind ≡ k → IsDistinct table → IsStoredOf table x → IsStored x → entry_body table x.entry ≡ x.body
-body-same table x Blank kind distinct of is =
-    let none : x.body ≡ [] = rw kind at is.body in
-    rw kind (sym none)
-body-same table x Write kind distinct of is =
-    let asks : is_request x.entry.kind ≡ true = rw kind refl in
-    rw asks (body-in table (request_of x.entry.rid x.entry.kind x.body) distinct (of asks))
-body-same table x Read kind distinct of is =
-    let asks : is_request x.entry.kind ≡ true = rw kind refl in
-    rw asks (body-in table (request_of x.entry.rid x.entry.kind x.body) distinct (of asks))
-
--- the log as the service sees it is the same in both
-operations-same : (table : List Request) (log : List Stored) → IsDistinct table → All (IsStoredOf table) log → All IsStored log
-    → world_operations table (metas_of log) ≡ operations log
-unfolding operations
-operations-same table [] distinct of is = refl
-operations-same table (x ∷ log) distinct of is =
-    let rest = operations-same table log distinct (All-tail (IsStoredOf table) x log of) (All-tail IsStored x log is) in
-    let here = body-same table x x.entry.kind refl distinct (All-head (IsStoredOf table) x log of) (All-head IsStored x log is) in
-    rw (here, rest) refl
-
 -- What was passed --
 
-passes-after : (v index : ℕ) (list : List Stored) (before : List Passed) → passes v index list before ≡ passes v index list [] ++ before
+pub passes-after : (v index : ℕ) (list : List Stored) (before : List Passed) → passes v index list before ≡ passes v index list [] ++ before
 passes-after v index [] before = refl
 passes-after v index (x ∷ list) before =
     let one : Passed = record { member = v; index = index; stored = x } in
@@ -230,7 +177,7 @@ module _ (s : Setup) (is : IsSetup s) where
       let high = here.last in
       let entry : world.entry_at (w.log s.me) a.index ≡ (stored_at x.log a.index).entry = rw tied.log (entry-is x.log a.index (omega (arith, low, set))) in
       let log_is : world_operations w.table (w.log s.me) ≡ operations x.log =
-      ap (λ (l : List Entry). world_operations w.table l) tied.log ∙ operations-same w.table x.log requests.table_is_distinct holds.bodies stored in
+      ap (λ (l : List Entry). world_operations w.table l) tied.log ∙ operations-whole w.table x.log requests.table_is_distinct (λ k d inside. whole-stored w.table (get_or x.log k d) (holds.bodies k d inside) (stored k d inside)) in
       let may : MayAnswer w s.me a.index a.payload =
       record {
         acts = acts s w x is like;
@@ -426,7 +373,7 @@ finished-role s m = by m.role (m.pending == 0)
     by member.Candidate false = refl
 
 -- the batch of what is due
-batch-is : (m : Member) → batch_of (due m) ≡ take (due m).pending (drop m.applied m.log)
+pub batch-is : (m : Member) → batch_of (due m) ≡ take (due m).pending (drop m.applied m.log)
 batch-is m = ap (λ (d : Member). batch_of d) (due-is m) ∙ plain m.log m.applied (due m).pending
   where
     plain : (log : List Stored) (from count : ℕ) → entries_between log (from + 1) (from + count) ≡ take count (drop from log)

@@ -52,7 +52,7 @@ pub record IsGood (s : Setup) (r : Replica) : Type 0 where
 good-stopped : (s : Setup) (journal : List Record) → IsHistory journal → IsGood s (stopped journal)
 good-stopped s journal history = record { history = history; member = tt }
 
-durable-anew : (d : State) → durable_of (anew d) ≡ d
+pub durable-anew : (d : State) → durable_of (anew d) ≡ d
 unfolding anew
 durable-anew d = refl
 
@@ -68,11 +68,11 @@ good-started s journal history =
     }
 
 -- a journal with what a turn stored is a history that leads to what the member keeps then
-record Grown (journal : List Record) (d : State) : Type 0 where
-  history : IsHistory journal
-  leads : d ≡ replay journal
+pub record Grown (journal : List Record) (d : State) : Type 0 where
+  pub history : IsHistory journal
+  pub leads : d ≡ replay journal
 
-grown : (journal : List Record) (old new : State) (stored : Option Record) → IsHistory journal → old ≡ replay journal → IsStored old stored new
+pub grown : (journal : List Record) (old new : State) (stored : Option Record) → IsHistory journal → old ≡ replay journal → IsStored old stored new
     → Grown (with_stored journal stored) new
 grown journal old new None history same stays = record { history = history; leads = stays ∙ same }
 grown journal old new (Some r) history same change =

@@ -1,3 +1,5 @@
+pub mod Items
+pub mod TableBodies
 pub mod Decoded
 pub mod Heard
 pub mod Turns
@@ -27,3 +29,21 @@ pub mod Composed
 pub mod WholeTurns
 pub mod Receiving
 pub mod Sparing
+pub mod Stretches
+pub mod Places
+pub mod Stops
+pub mod SentDatagrams
+pub mod Askings
+pub mod AggregatorTurns
+pub mod Assembled
+pub mod MemberTurns
+pub mod Beginnings
+pub mod Ends
+pub mod WholeBodies
+pub mod Gaps
+pub mod OneList
+pub mod AllSteps
+pub mod ReplyFacts
+pub mod AsOne
+pub mod Growing
+pub mod WholeRuns

@@ -18,7 +18,7 @@ use Rattle.hc_message.proofs.Numbers.{u64_again}
 use Rattle.hc_message.proofs.Takes.{guard_ok}
 use Rattle.hc_store.specs.Replies.{Operation, entry_reply, payload_of, reply_at}
 use Rattle.hc_store.specs.Service.{Contents, serve}
-use Rattle.hc_world.specs.Log as world
+use Rattle.hc_rules.specs.Log as world
 use Rattle.hc_run.specs.Steps.{index_in}
 
 -- Logs --

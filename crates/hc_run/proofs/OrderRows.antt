@@ -30,18 +30,18 @@ use Rattle.hc_member.specs.Turn.{row}
 use Rattle.hc_member.specs.Votes.{rise_to}
 use Rattle.hc_member.proofs.OrderRows.{follows-parts}
 use Rattle.hc_member.proofs.Rows.{goes-row}
-use Rattle.hc_world.specs.Conditions.{AreHeld, Conflicts, Fits, Hears, MayYield}
-use Rattle.hc_world.specs.Kept.{Kept}
-use Rattle.hc_world.specs.Log as world
-use Rattle.hc_world.specs.Log.{In}
-use Rattle.hc_world.specs.Message as message
-use Rattle.hc_world.specs.Parts.{member_of}
-use Rattle.hc_world.specs.Protocol.{ProtocolState, Follower, Leader}
-use Rattle.hc_world.specs.Requests.{IsKnown}
-use Rattle.hc_world.specs.Rules.{Acknowledge, CommitByOrder, Confirm, Hold, RejectOrder, Take, Yield, after}
-use Rattle.hc_world.specs.Rules as rule
-use Rattle.hc_world.proofs.Puts.{put_same, self}
-use Rattle.hc_world.proofs.Steps.{steps_keep}
+use Rattle.hc_rules.specs.Conditions.{AreHeld, Conflicts, Fits, Hears, MayYield}
+use Rattle.hc_rules.specs.Kept.{Kept}
+use Rattle.hc_rules.specs.Log as world
+use Rattle.hc_rules.specs.Log.{In}
+use Rattle.hc_rules.specs.Message as message
+use Rattle.hc_rules.specs.Parts.{member_of}
+use Rattle.hc_rules.specs.Protocol.{ProtocolState, Follower, Leader}
+use Rattle.hc_rules.specs.Requests.{IsKnown}
+use Rattle.hc_rules.specs.Rules.{Acknowledge, CommitByOrder, Confirm, Hold, RejectOrder, Take, Yield, after}
+use Rattle.hc_rules.specs.Rules as rule
+use Rattle.hc_rules.proofs.Puts.{put_same, self}
+use Rattle.hc_rules.proofs.Steps.{steps_keep}
 use Rattle.hc_run.specs.Backed.{IsBacked}
 use Rattle.hc_run.specs.Held.{Holds}
 use Rattle.hc_run.specs.Rows.{HearsSent, RowIsRules}
@@ -70,7 +70,7 @@ rejects s w m old to hint is like =
 -- What an Order says --
 
 -- the requests of an Order that was sent are the table's
-order-known : (w : ProtocolState) (o : message.Order) → Kept w → In o w.orders → All (IsKnownEntry w.table) o.entries
+pub order-known : (w : ProtocolState) (o : message.Order) → Kept w → In o w.orders → All (IsKnownEntry w.table) o.entries
 order-known w o kept sent k d inside asks =
     let logs = kept.logs in
     let slice = logs.orders_are_slices o sent in

@@ -29,14 +29,14 @@ use Rattle.hc_member.specs.Setup.{IsSetup, address_of, others}
 use Rattle.hc_member.specs.Turn.{ordering, waiting_of}
 use Rattle.hc_member.proofs.Ordering.{CanOrder, orders}
 use Rattle.hc_member.proofs.Settled.{can-order, ordered-leader}
-use Rattle.hc_world.specs.Log.{In, Lacks}
-use Rattle.hc_world.specs.Message.{Passed, Report}
-use Rattle.hc_world.specs.Parts.{member_of}
-use Rattle.hc_world.specs.Protocol.{ProtocolState, indexes_of, is_to, reported, unreported}
-use Rattle.hc_world.specs.Requests.{IsKnown}
-use Rattle.hc_world.specs.Rules.{Hold, OrderRequest, after}
-use Rattle.hc_world.specs.Rules as rule
-use Rattle.hc_world.proofs.Puts.{put_same, same_or_not, self}
+use Rattle.hc_rules.specs.Log.{In, Lacks}
+use Rattle.hc_rules.specs.Message.{Passed, Report}
+use Rattle.hc_rules.specs.Parts.{member_of}
+use Rattle.hc_rules.specs.Protocol.{ProtocolState, indexes_of, is_to, reported, unreported}
+use Rattle.hc_rules.specs.Requests.{IsKnown}
+use Rattle.hc_rules.specs.Rules.{Hold, OrderRequest, after}
+use Rattle.hc_rules.specs.Rules as rule
+use Rattle.hc_rules.proofs.Puts.{put_same, same_or_not, self}
 use Rattle.hc_run.specs.Backed.{IsBacked, IsSentAs}
 use Rattle.hc_run.specs.Halves.{OrderingIsRules}
 use Rattle.hc_run.specs.Held.{IsAmong, IsAskedIn, IsLed, IsStoredOf, owed}

@@ -12,9 +12,9 @@ use Rattle.hc_member.specs.Member.{Lead, Member}
 use Rattle.hc_member.specs.Reports.{with_report}
 use Rattle.hc_member.specs.Setup.{IsSetup}
 use Rattle.hc_member.specs.Sound.{IsLeading}
-use Rattle.hc_world.specs.Message.{Report}
-use Rattle.hc_world.specs.Protocol.{indexes_of, is_to, reported}
-use Rattle.hc_world.proofs.Puts.{same_or_not, self}
+use Rattle.hc_rules.specs.Message.{Report}
+use Rattle.hc_rules.specs.Protocol.{indexes_of, is_to, reported}
+use Rattle.hc_rules.proofs.Puts.{same_or_not, self}
 use Rattle.hc_run.specs.Held.{IsAmong, IsLed, owed}
 
 -- one more item of the longer list

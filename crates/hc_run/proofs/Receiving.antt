@@ -3,7 +3,7 @@ use Rattle.std.proofs.Common.{◌≡◌, ◌<◌, ◌≤◌, ℕ, zero, suc, tru
 use Rattle.std.specs.Prelude.{All, Result, Ok}
 use Rattle.std.specs.List.{Contains, slice_get}
 use Rattle.std.proofs.lemmas.Option.{same_Some}
-use Rattle.std.proofs.lemmas.List.Elements.{All-contains, All-head, All-tail, All-weaker}
+use Rattle.std.proofs.lemmas.List.Elements.{All-contains, All-weaker}
 use Rattle.std.proofs.Math.Seq.{drop-append_seam}
 use Rattle.r2_base.specs.declared.addr.Addr.{Addr}
 use Rattle.r2_base.specs.declared.datagram.Datagram.{Datagram}
@@ -33,7 +33,7 @@ use Rattle.r2_frag.proofs.OnePart.{one_part, unfinished_stay}
 use Rattle.r2_base.specs.Names.{FitsRid}
 use Rattle.hc_message.specs.Message.{IsValid as IsValidMessage}
 use Rattle.hc_member.specs.Sending.{recover_spec}
-use Rattle.hc_world.specs.Requests.{IsKnown}
+use Rattle.hc_rules.specs.Requests.{IsKnown}
 use Rattle.r2_frag.specs.Keys.{key_at}
 use Rattle.r2_frag.specs.Laws.{FitsHeaders}
 use Rattle.r2_frag.specs.Parts.{IsSendable, part_count, part_datagram, part_header, parts_of, piece}
@@ -51,16 +51,17 @@ use Rattle.hc_member.specs.declared.setup.Setup.{Setup}
 use Rattle.hc_member.specs.Heard.{Received, kind_under, message_said, policy_of, receive, receive_packet, receive_part, receive_read, receive_request, recovery_heard, recovery_said, request_said}
 use Rattle.hc_member.specs.Member.{Member}
 use Rattle.hc_member.specs.Setup.{own_address}
-use Rattle.hc_world.specs.Log.{In}
-use Rattle.hc_world.specs.Message.{Request}
-use Rattle.hc_world.specs.Protocol.{ProtocolState}
+use Rattle.hc_rules.specs.Log.{In}
+use Rattle.hc_rules.specs.Message.{Request}
+use Rattle.hc_rules.specs.Protocol.{ProtocolState}
 use Rattle.hc_run.specs.Backed.{IsAbout, IsBackedDatagram, IsHeardOf, IsMessage, IsRecoveryPart, IsReplyPart, IsRequestPart, IsSentAs}
-use Rattle.hc_run.specs.Held.{HasPartsBy, HasTablesParts}
-use Rattle.hc_run.specs.Receiving.{DatagramTurnsAreRules, IsAsked, MessageTurnsAreRules, RequestTurnsAreRules, TimedTurnsAreRules}
+use Rattle.hc_run.specs.Held.{HasPartsBy, HasTablesParts, IsAsked}
+use Rattle.hc_run.specs.Receiving.{DatagramTurnsAreRules, MessageTurnsAreRules, RequestTurnsAreRules, TimedTurnsAreRules}
 use Rattle.hc_run.specs.Steps.{request_spec}
 use Rattle.hc_run.specs.Tied.{request_of}
 use Rattle.hc_run.specs.WholeTurns.{IsReceived}
-use Rattle.hc_run.proofs.Finishing.{IsDistinct, at-in, distinct-rest}
+use Rattle.hc_run.proofs.Items.{holds-in}
+use Rattle.hc_run.proofs.TableBodies.{IsDistinct, at-in, distinct-rest}
 use Rattle.hc_run.proofs.WholeTurns.{turn_rules}
 
 -- Ticks --
@@ -123,12 +124,12 @@ message_turns s w m d stands own is =
 -- Parts --
 
 -- the place of an item
-record IsAt {A : Type 0} (x : A) (l : List A) : Type 0 where
-  place : ℕ
-  inside : place < length l
-  there : slice_get l place ≡ Some x
+pub record IsAt {A : Type 0} (x : A) (l : List A) : Type 0 where
+  pub place : ℕ
+  pub inside : place < length l
+  pub there : slice_get l place ≡ Some x
 
-is-at : {A : Type 0} (x : A) (l : List A) → In x l → IsAt x l
+pub is-at : {A : Type 0} (x : A) (l : List A) → In x l → IsAt x l
 is-at x [] there = absurd there
 is-at x (y ∷ l) (inl same) = record { place = zero; inside = omega arith; there = ap Some (sym same) }
 is-at x (y ∷ l) (inr later) =
@@ -205,12 +206,12 @@ module _ (s : Setup) (w : ProtocolState) (q : Request) (distinct : IsDistinct w.
             (unfinished_stay u key h payload (all-wait w.table u all)) keeps.left parts-left;
       }
 
-  sendable-by : (kind : Kind) → q.kind ≡ kind → is_request kind ≡ true → IsSendable spec q.body
+  pub sendable-by : (kind : Kind) → q.kind ≡ kind → is_request kind ≡ true → IsSendable spec q.body
   sendable-by Blank e asks = absurd cc
   sendable-by Write e asks = rw e (record { limit = asked.short; first = record { low = omega arith; high = omega arith }; later = λ more. record { low = omega arith; high = omega arith } })
   sendable-by Read e asks = rw e (record { limit = asked.short; first = record { low = omega arith; high = omega arith }; later = λ more. record { low = omega arith; high = omega arith } })
 
-  fits : FitsHeaders spec
+  pub fits : FitsHeaders spec
   fits = let rid = asked.fits in record { id = rid.id; client = tt }
 
   part-received : (n : ℕ) → n < part_count q.body → IsReceived s w (receive u (event.Datagram (part_datagram spec q.body n)))
@@ -244,11 +245,6 @@ request-received s w u d distinct all is asked =
     let same : part_datagram spec q.body found.place ≡ d = same_Some _ _ (sym part.placed ∙ found.there) in
     subst (λ (x : Datagram). IsReceived s w (receive u (event.Datagram x))) same
     (part-received s w q distinct is.sent asked u all d.to found.place less)
-
-asked-in : (table : List Request) (q : Request) → All IsAsked table → In q table → IsAsked q
-asked-in [] q all there = absurd there
-asked-in (x ∷ more) q all (inl same) = subst IsAsked (sym same) (All-head IsAsked x more all)
-asked-in (x ∷ more) q all (inr later) = asked-in more q (All-tail IsAsked x more all) later
 
 -- Bodies that are asked for, and given --
 
@@ -375,9 +371,9 @@ module _ (s : Setup) (w : ProtocolState) (distinct : IsDistinct w.table) (asked 
   about-added (AggCommit a b) valid about n less payload same is = absurd about
 
   about-fits : (message : Msg) → IsAbout w.table rid message → FitsRid rid
-  about-fits (RecoverBody kind body) sent = let is = asked-in w.table (request_of rid kind body) asked sent in is.fits
+  about-fits (RecoverBody kind body) sent = let is = holds-in IsAsked (request_of rid kind body) w.table asked sent in is.fits
   about-fits (RecoverAsk member) known =
-      let is = asked-in w.table known.request asked known.sent in subst FitsRid known.named is.fits
+      let is = holds-in IsAsked known.request w.table asked known.sent in subst FitsRid known.named is.fits
   about-fits (VoteReq a b c d) about = absurd about
   about-fits (Vote a b c) about = absurd about
   about-fits (Order a b c d e f g h) about = absurd about
@@ -395,11 +391,11 @@ module _ (s : Setup) (w : ProtocolState) (distinct : IsDistinct w.table) (asked 
   about-short (Nack a b c) valid about = absurd about
   about-short (AggCommit a b) valid about = absurd about
 
-  about-sendable : (message : Msg) → IsValidMessage message → IsAbout w.table rid message → IsSendable rspec (message_bytes message)
+  pub about-sendable : (message : Msg) → IsValidMessage message → IsAbout w.table rid message → IsSendable rspec (message_bytes message)
   about-sendable message valid about =
       record { limit = about-short message valid about; first = record { low = omega arith; high = omega arith }; later = λ more. record { low = omega arith; high = omega arith } }
 
-  about-headers : (message : Msg) → IsAbout w.table rid message → FitsHeaders rspec
+  pub about-headers : (message : Msg) → IsAbout w.table rid message → FitsHeaders rspec
   about-headers message about = let is = about-fits message about in record { id = is.id; client = is.client }
 
   about-received : (message : Msg) → IsValidMessage message → IsAbout w.table rid message → (n : ℕ) → n < part_count (message_bytes message)
@@ -439,7 +435,7 @@ recovery-part s w u d distinct asked all is =
 
 -- Replies --
 
-reply-sendable : (from : Addr) (r : KeptReply) → IsReply r → IsSendable (reply_spec from r.rid r.policy) r.payload
+pub reply-sendable : (from : Addr) (r : KeptReply) → IsReply r → IsSendable (reply_spec from r.rid r.policy) r.payload
 reply-sendable from r right =
     let most = right.policy in
     record { limit = right.payload; first = record { low = omega arith; high = omega (arith, most) }; later = λ more. record { low = omega arith; high = omega (arith, most) } }
@@ -479,7 +475,7 @@ reply-part s w u d all is =
 
 datagram-received : (s : Setup) (w : ProtocolState) (u : List Unfinished) (d : Datagram) → IsDistinct w.table → All IsAsked w.table → All (HasTablesParts w.table) u → d.to ≡ own_address s
     → IsBackedDatagram s.members w d → IsReceived s w (receive u (event.Datagram d))
-datagram-received s w u d distinct asked all own (inl is) = request-received s w u d distinct all is (asked-in w.table is.request asked is.sent)
+datagram-received s w u d distinct asked all own (inl is) = request-received s w u d distinct all is (holds-in IsAsked is.request w.table asked is.sent)
 datagram-received s w u d distinct asked all own (inr (inl is)) = message-received s w u d all own is
 datagram-received s w u d distinct asked all own (inr (inr (inl is))) = recovery-part s w u d distinct asked all is
 datagram-received s w u d distinct asked all own (inr (inr (inr is))) = reply-part s w u d all is
@@ -499,4 +495,4 @@ request_turns s w m d stands asked is =
     let kept = stands.kept in
     let requests = kept.requests in
     turn_rules s w m (event.Datagram d) stands
-    (request-received s w m.unfinished d requests.table_is_distinct holds.unfinished is (asked-in w.table is.request asked is.sent))
+    (request-received s w m.unfinished d requests.table_is_distinct holds.unfinished is (holds-in IsAsked is.request w.table asked is.sent))

@@ -19,12 +19,12 @@ use Rattle.hc_member.specs.Turn.{row}
 use Rattle.hc_member.specs.Votes.{rise_to}
 use Rattle.hc_member.proofs.ReportRows.{leading, role-leads}
 use Rattle.hc_member.proofs.Rows.{goes-row}
-use Rattle.hc_world.specs.Conditions.{Leads}
-use Rattle.hc_world.specs.Message.{Ack as WorldAck, AggregateCommit, Report}
-use Rattle.hc_world.specs.Parts.{member_of}
-use Rattle.hc_world.specs.Protocol.{ProtocolState, put}
-use Rattle.hc_world.specs.Rules.{CommitByAggregate, NoteAck, NoteReport, after}
-use Rattle.hc_world.proofs.Puts.{put_same, same_or_not, self}
+use Rattle.hc_rules.specs.Conditions.{Leads}
+use Rattle.hc_rules.specs.Message.{Ack as WorldAck, AggregateCommit, Report}
+use Rattle.hc_rules.specs.Parts.{member_of}
+use Rattle.hc_rules.specs.Protocol.{ProtocolState, put}
+use Rattle.hc_rules.specs.Rules.{CommitByAggregate, NoteAck, NoteReport, after}
+use Rattle.hc_rules.proofs.Puts.{put_same, same_or_not, self}
 use Rattle.hc_run.specs.Backed.{IsBacked}
 use Rattle.hc_run.specs.Held.{IsLed}
 use Rattle.hc_run.specs.Rows.{HearsSent, RowIsRules}

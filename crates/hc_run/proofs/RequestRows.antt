@@ -22,10 +22,10 @@ use Rattle.hc_member.specs.Sound.{IsRightReply, IsSound}
 use Rattle.hc_member.specs.Turn.{row}
 use Rattle.hc_member.proofs.Answers.{newest-All}
 use Rattle.hc_member.proofs.Rows.{goes-row}
-use Rattle.hc_world.specs.Log.{In, entry_at}
-use Rattle.hc_world.specs.Message.{Passed}
-use Rattle.hc_world.specs.Protocol.{ProtocolState}
-use Rattle.hc_world.specs.Rules.{AnswerAgain}
+use Rattle.hc_rules.specs.Log.{In, entry_at}
+use Rattle.hc_rules.specs.Message.{Passed}
+use Rattle.hc_rules.specs.Protocol.{ProtocolState}
+use Rattle.hc_rules.specs.Rules.{AnswerAgain}
 use Rattle.hc_run.specs.Backed.{IsBacked}
 use Rattle.hc_run.specs.Held.{IsAskedIn, WasReplied}
 use Rattle.hc_run.specs.Rows.{HearsSent, IsRow, RowIsRules}

@@ -18,12 +18,12 @@ use Rattle.hc_member.specs.Setup.{IsSetup, address_of}
 use Rattle.hc_member.specs.Sound.{IsSound}
 use Rattle.hc_member.proofs.Leads.{next-most}
 use Rattle.hc_member.proofs.ReportRows.{leading}
-use Rattle.hc_world.specs.Conditions.{MaySendOrder}
-use Rattle.hc_world.specs.Log as world
-use Rattle.hc_world.specs.Log.{In}
-use Rattle.hc_world.specs.Message.{Order as WorldOrder, Passed, Report}
-use Rattle.hc_world.specs.Protocol.{ProtocolState}
-use Rattle.hc_world.specs.Rules.{SendOrder, after, order_of}
+use Rattle.hc_rules.specs.Conditions.{MaySendOrder}
+use Rattle.hc_rules.specs.Log as world
+use Rattle.hc_rules.specs.Log.{In}
+use Rattle.hc_rules.specs.Message.{Order as WorldOrder, Passed, Report}
+use Rattle.hc_rules.specs.Protocol.{ProtocolState}
+use Rattle.hc_rules.specs.Rules.{SendOrder, after, order_of}
 use Rattle.hc_run.specs.Backed.{IsBacked, IsSentAs}
 use Rattle.hc_run.proofs.Metas.{length-metas, term-metas}
 use Rattle.hc_run.proofs.Ways.{IsLike, IsWay, acts, way-first}

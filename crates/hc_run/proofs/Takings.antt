@@ -18,10 +18,10 @@ use Rattle.hc_pool.specs.declared.request.Request.{Request}
 use Rattle.hc_pool.specs.Pool.{has_rid, request_of as waiting_of, waits_in, without}
 use Rattle.hc_order.specs.Taking.{Grown, after_end, agreeing, agrees, appending, cut_at, grown_by, is_missing, may_append, missing, next_stored, pool_left, released, same_kind, taken, with_body, with_missing}
 use Rattle.hc_member.proofs.Answers.{find-All, find-passes}
-use Rattle.hc_world.specs.Log.{In}
-use Rattle.hc_world.specs.Log as world
-use Rattle.hc_world.specs.Message as message
-use Rattle.hc_world.specs.Requests.{IsKnown}
+use Rattle.hc_rules.specs.Log.{In}
+use Rattle.hc_rules.specs.Log as world
+use Rattle.hc_rules.specs.Message as message
+use Rattle.hc_rules.specs.Requests.{IsKnown}
 use Rattle.hc_run.specs.Held.{IsAskedIn, IsStoredOf}
 use Rattle.hc_run.specs.Tied.{request_of}
 use Rattle.hc_run.proofs.Metas.{entry-metas}

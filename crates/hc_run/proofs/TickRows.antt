@@ -20,17 +20,16 @@ use Rattle.hc_member.specs.Ticks.{campaigns, is_impatient, relieved, ticked, wai
 use Rattle.hc_member.specs.Turn.{row}
 use Rattle.hc_member.specs.Votes.{is_elected, own_vote, stands, vote_request, vote_requests, wins}
 use Rattle.hc_member.proofs.Rows.{goes-row}
-use Rattle.hc_world.specs.Conditions.{MayStand}
-use Rattle.hc_world.specs.Kept.{Kept}
-use Rattle.hc_world.specs.Log as world
-use Rattle.hc_world.specs.Log.{In}
-use Rattle.hc_world.specs.Message.{VoteRequest}
-use Rattle.hc_world.specs.Parts.{member_of}
-use Rattle.hc_world.specs.Protocol.{ProtocolState, Leader, Candidate}
-use Rattle.hc_world.specs.Rules.{AskVotes, Stand, after}
-use Rattle.hc_world.specs.Rules as rule
-use Rattle.hc_world.proofs.Puts.{put_same, same_or_not, self}
-use Rattle.hc_world.proofs.Steps.{steps_keep}
+use Rattle.hc_rules.specs.Conditions.{MayStand}
+use Rattle.hc_rules.specs.Kept.{Kept}
+use Rattle.hc_rules.specs.Log as world
+use Rattle.hc_rules.specs.Message.{VoteRequest}
+use Rattle.hc_rules.specs.Parts.{member_of}
+use Rattle.hc_rules.specs.Protocol.{ProtocolState, Leader, Candidate}
+use Rattle.hc_rules.specs.Rules.{AskVotes, Stand, after}
+use Rattle.hc_rules.specs.Rules as rule
+use Rattle.hc_rules.proofs.Puts.{put_same, same_or_not, self}
+use Rattle.hc_rules.proofs.Steps.{steps_keep}
 use Rattle.hc_run.specs.Backed.{IsBacked}
 use Rattle.hc_run.specs.Held.{IsAskedIn}
 use Rattle.hc_run.specs.Rows.{HearsSent, RowIsRules}

@@ -8,11 +8,11 @@ use Rattle.hc_store.specs.State.{State as Service}
 use Rattle.hc_member.specs.declared.role.Role.{Role as MemberRole}
 use Rattle.hc_member.specs.declared.role.Role.TheVariants as member
 use Rattle.hc_member.specs.Member.{Member}
-use Rattle.hc_world.specs.Message.{VoteRequest, Order}
-use Rattle.hc_world.specs.Parts.{MemberOf, member_of}
-use Rattle.hc_world.specs.Protocol.{ProtocolState, Follower}
-use Rattle.hc_world.specs.Rules.{after, Rise, GrantVote, Yield, committed}
-use Rattle.hc_world.proofs.Puts.{put_same}
+use Rattle.hc_rules.specs.Message.{VoteRequest, Order}
+use Rattle.hc_rules.specs.Parts.{MemberOf, member_of}
+use Rattle.hc_rules.specs.Protocol.{ProtocolState, Follower}
+use Rattle.hc_rules.specs.Rules.{after, Rise, GrantVote, Yield, committed}
+use Rattle.hc_rules.proofs.Puts.{put_same}
 use Rattle.hc_run.specs.Tied.{IsTied}
 
 -- a member that doesn't lead, and one that doesn't stand

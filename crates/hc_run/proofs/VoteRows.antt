@@ -19,18 +19,18 @@ use Rattle.hc_member.specs.Sound.{IsInRole, IsSound}
 use Rattle.hc_member.specs.Turn.{row}
 use Rattle.hc_member.specs.Votes.{counts_vote, grants, hear_vote, hear_vote_request, is_free_for, reaches, rise_to, vote_sent, votes_on, wins_if_elected, with_vote}
 use Rattle.hc_member.proofs.Rows.{goes-row}
-use Rattle.hc_world.specs.Conditions.{MayCount}
-use Rattle.hc_world.specs.Log.{In, IsNotAhead}
-use Rattle.hc_world.specs.Log as world
-use Rattle.hc_world.specs.Message.{VoteRequest}
-use Rattle.hc_world.specs.Protocol.{ProtocolState}
-use Rattle.hc_world.specs.Rules.{CountVote, GrantVote, Refuse, SendVote, after, vote_of}
-use Rattle.hc_world.proofs.Puts.{put_same}
+use Rattle.hc_rules.specs.Conditions.{MayCount}
+use Rattle.hc_rules.specs.Log.{In, IsNotAhead}
+use Rattle.hc_rules.specs.Log as world
+use Rattle.hc_rules.specs.Message.{VoteRequest}
+use Rattle.hc_rules.specs.Protocol.{ProtocolState}
+use Rattle.hc_rules.specs.Rules.{CountVote, GrantVote, Refuse, SendVote, after, vote_of}
+use Rattle.hc_rules.proofs.Puts.{put_same}
 use Rattle.hc_run.specs.Backed.{IsBacked, IsSentAs}
 use Rattle.hc_run.specs.Rows.{HearsSent, RowIsRules}
 use Rattle.hc_run.proofs.Common.{by-fits, holds-on, led-candidate, led-follower}
 use Rattle.hc_run.proofs.Elections.{elects, one-address, tie-count}
-use Rattle.hc_world.proofs.Steps.{steps_keep}
+use Rattle.hc_rules.proofs.Steps.{steps_keep}
 use Rattle.std.proofs.lemmas.List.{length-set}
 use Rattle.hc_run.proofs.Metas.{last-metas, length-metas}
 use Rattle.hc_run.proofs.Senders.{sender-inside}

@@ -11,14 +11,14 @@ use Rattle.hc_member.specs.Reports.{report_in}
 use Rattle.hc_member.specs.Setup.{IsSetup}
 use Rattle.hc_member.specs.Sound.{IsSound}
 use Rattle.hc_member.specs.Votes.{rise_to}
-use Rattle.hc_world.specs.Conditions.{Allowed, CanAct, MayRise}
-use Rattle.hc_world.specs.Kept.{Kept}
-use Rattle.hc_world.proofs.Steps.{steps_keep}
-use Rattle.hc_world.specs.Message.{Passed, Report}
-use Rattle.hc_world.specs.Parts.{member_of}
-use Rattle.hc_world.specs.Protocol.{ProtocolState}
-use Rattle.hc_world.specs.Rules.{Rule, Rise, after}
-use Rattle.hc_world.specs.Runs.{AllAllowed, after_rules}
+use Rattle.hc_rules.specs.Conditions.{Allowed, CanAct, MayRise}
+use Rattle.hc_rules.specs.Kept.{Kept}
+use Rattle.hc_rules.proofs.Steps.{steps_keep}
+use Rattle.hc_rules.specs.Message.{Passed, Report}
+use Rattle.hc_rules.specs.Parts.{member_of}
+use Rattle.hc_rules.specs.Protocol.{ProtocolState}
+use Rattle.hc_rules.specs.Rules.{Rule, Rise, after}
+use Rattle.hc_rules.specs.Runs.{AllAllowed, after_rules}
 use Rattle.hc_run.specs.Backed.{IsBacked}
 use Rattle.hc_run.specs.Held.{Holds}
 use Rattle.hc_run.specs.Rows.{AreBy, ByMember, IsRow, maker}

@@ -23,11 +23,11 @@ use Rattle.hc_member.specs.Turn.{counting, led, ordering, reacted, reacted_to, r
 use Rattle.hc_member.proofs.Rows.{goes-row}
 use Rattle.hc_member.proofs.Settled.{sound-batched}
 use Rattle.hc_member.proofs.Turned.{sound-received}
-use Rattle.hc_world.specs.Message.{Passed, Report, Request}
-use Rattle.hc_world.specs.Parts.{Grows}
-use Rattle.hc_world.specs.Protocol.{ProtocolState}
-use Rattle.hc_world.specs.Runs.{after_rules}
-use Rattle.hc_world.proofs.RuleLists.{rules_only_add}
+use Rattle.hc_rules.specs.Message.{Passed, Report, Request}
+use Rattle.hc_rules.specs.Parts.{Grows}
+use Rattle.hc_rules.specs.Protocol.{ProtocolState}
+use Rattle.hc_rules.specs.Runs.{after_rules}
+use Rattle.hc_rules.proofs.RuleLists.{rules_only_add}
 use Rattle.hc_run.specs.Backed.{IsBacked}
 use Rattle.hc_run.specs.Halves.{IsSteps, Stands, passed_by}
 use Rattle.hc_run.specs.Held.{HasTablesParts}

@@ -5,10 +5,10 @@ use Rattle.hc_message.specs.declared.msg.Msg.{Msg}
 use Rattle.hc_message.specs.Message.{IsValid}
 use Rattle.hc_aggregate.specs.Tally.{Tally}
 use Rattle.hc_aggregate.specs.Turn.{Outcome, Telling, receive}
-use Rattle.hc_world.specs.Kept.{Kept}
-use Rattle.hc_world.specs.Protocol.{ProtocolState}
-use Rattle.hc_world.specs.Rules.{Rule}
-use Rattle.hc_world.specs.Runs.{AllAllowed, after_rules}
+use Rattle.hc_rules.specs.Kept.{Kept}
+use Rattle.hc_rules.specs.Protocol.{ProtocolState}
+use Rattle.hc_rules.specs.Rules.{Rule}
+use Rattle.hc_rules.specs.Runs.{AllAllowed, after_rules}
 use Rattle.hc_run.specs.Backed.{IsSentAs}
 use Rattle.hc_run.specs.Rows.{AreBy, ByAggregator}
 use Rattle.hc_run.specs.Tied.{IsTiedTally}

@@ -18,11 +18,11 @@ use Rattle.hc_member.specs.declared.heard.Heard.TheVariants.{Nothing, Whole, Tol
 use Rattle.hc_member.specs.Sending.{Sending, Tell, Recover, Reply as ReplyTo, recover_spec}
 use Rattle.hc_member.specs.Setup.{own_address}
 use Rattle.hc_aggregate.specs.Group.{address_of}
-use Rattle.hc_world.specs.Log.{In}
-use Rattle.hc_world.specs.Message.{Request}
-use Rattle.hc_world.specs.Protocol.{ProtocolState}
-use Rattle.hc_world.specs.Requests.{IsKnown}
-use Rattle.hc_world.specs.Rules.{vote_of}
+use Rattle.hc_rules.specs.Log.{In}
+use Rattle.hc_rules.specs.Message.{Request}
+use Rattle.hc_rules.specs.Protocol.{ProtocolState}
+use Rattle.hc_rules.specs.Requests.{IsKnown}
+use Rattle.hc_rules.specs.Rules.{vote_of}
 use Rattle.hc_run.specs.Held.{WasReplied}
 use Rattle.hc_run.specs.Steps.{reply_from, request_spec}
 use Rattle.hc_run.specs.Tied.{request_in, request_of}

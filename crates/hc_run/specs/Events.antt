@@ -5,8 +5,8 @@ use Rattle.r2_base.specs.Entry.{is_request}
 use Rattle.r2_base.specs.Limits.{most_body}
 use Rattle.r2_base.specs.Names.{FitsRid}
 use Rattle.r2_base.specs.Numbers.{AreBytes}
-use Rattle.hc_world.specs.Message.{Request}
-use Rattle.hc_world.specs.Requests.{IsKnown}
+use Rattle.hc_rules.specs.Message.{Request}
+use Rattle.hc_rules.specs.Requests.{IsKnown}
 use Rattle.hc_run.specs.Group.{Group, Receiver, Member, Aggregator, Outside, receiver_at}
 use Rattle.hc_run.specs.State.{GroupState, is_up}
 

@@ -9,7 +9,7 @@ use Rattle.hc_member.specs.declared.role.Role.{Role}
 use Rattle.hc_member.specs.declared.role.Role.TheVariants.{Leader}
 use Rattle.hc_member.specs.Member.{Member as MemberState}
 use Rattle.hc_member.specs.Worked.{address, client, get_a, ones, rid}
-use Rattle.hc_world.specs.Message.{Reply, Report, Request}
+use Rattle.hc_rules.specs.Message.{Reply, Report, Request}
 use Rattle.hc_run.specs.Group.{Group}
 use Rattle.hc_run.specs.State.{Passed, journal_at, member_at}
 use Rattle.hc_run.specs.Events.{GroupEvent, ClientSend, Deliver, Tick, Quiet, CrashInTurn, Restart}

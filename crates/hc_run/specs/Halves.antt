@@ -8,12 +8,12 @@ use Rattle.hc_member.specs.Orders.{fresh_orders}
 use Rattle.hc_member.specs.Sending.{Sending}
 use Rattle.hc_member.specs.Setup.{IsSetup}
 use Rattle.hc_member.specs.Turn.{counting, ordering}
-use Rattle.hc_world.specs.Kept.{Kept}
-use Rattle.hc_world.specs.Message.{Passed, Report}
-use Rattle.hc_world.specs.Protocol.{ProtocolState}
-use Rattle.hc_world.specs.Replies.{Answered}
-use Rattle.hc_world.specs.Rules.{Rule}
-use Rattle.hc_world.specs.Runs.{AllAllowed, after_rules}
+use Rattle.hc_rules.specs.Kept.{Kept}
+use Rattle.hc_rules.specs.Message.{Passed, Report}
+use Rattle.hc_rules.specs.Protocol.{ProtocolState}
+use Rattle.hc_rules.specs.Replies.{Answered}
+use Rattle.hc_rules.specs.Rules.{Rule}
+use Rattle.hc_rules.specs.Runs.{AllAllowed, after_rules}
 use Rattle.hc_run.specs.Backed.{IsBacked}
 use Rattle.hc_run.specs.Rows.{AreBy, ByMember}
 use Rattle.hc_run.specs.Shows.{IsShown}

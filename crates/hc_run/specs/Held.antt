@@ -1,6 +1,8 @@
 -- What a member holds is what clients asked for, what was replied, and what it has to answer.
-use Rattle.std.specs.Prelude.{◌≡◌, ◌⊎◌, ℕ, true, List, [], ◌∷◌, drop, length, All, Some}
+use Rattle.std.specs.Prelude.{◌≡◌, ◌≤◌, ◌⊎◌, ℕ, true, false, List, [], ◌∷◌, drop, length, All, Some}
 use Rattle.r2_base.specs.Entry.{is_request}
+use Rattle.r2_base.specs.Limits.{most_body}
+use Rattle.r2_base.specs.Names.{FitsRid}
 use Rattle.r2_frag.specs.declared.class.Class.{Class}
 use Rattle.r2_frag.specs.declared.class.Class.TheVariants as class
 use Rattle.r2_frag.specs.declared.kept.KeptReply.{KeptReply}
@@ -15,15 +17,26 @@ use Rattle.hc_replier.specs.Queues.{row_at}
 use Rattle.hc_member.specs.declared.role.Role.TheVariants.{Leader}
 use Rattle.hc_member.specs.Heard.{kind_under}
 use Rattle.hc_member.specs.Member.{Member}
-use Rattle.hc_world.specs.Log.{In}
-use Rattle.hc_world.specs.Message.{Report, Reply, Request}
-use Rattle.hc_world.specs.Protocol.{indexes_of, is_to, reported}
+use Rattle.hc_rules.specs.Log.{In}
+use Rattle.hc_rules.specs.Message.{Report, Reply, Request}
+use Rattle.hc_rules.specs.Protocol.{indexes_of, is_to, reported}
 use Rattle.hc_run.specs.Steps.{reply_from}
 use Rattle.hc_run.specs.Tied.{request_in, request_of}
+
+-- a request is as a client may send it
+pub record IsAsked (q : Request) : Type 0 where
+  pub fits : FitsRid q.rid
+  pub asks : is_request q.kind ≡ true
+  pub short : length q.body ≤ most_body
 
 -- an entry of a log is a request of the table, with its kind and its body; a blank one asks for nothing
 abbrev pub IsStoredOf : List Request → Stored → Type 0
 IsStoredOf table s = is_request s.entry.kind ≡ true → In (request_of s.entry.rid s.entry.kind s.body) table
+
+-- and has the request's body; a blank one has none
+pub record IsWhole (table : List Request) (x : Stored) : Type 0 where
+  pub listed : IsStoredOf table x
+  pub blank : is_request x.entry.kind ≡ false → x.body ≡ []
 
 -- a request that waits is one of the table
 abbrev pub IsAskedIn : List Request → PoolRequest → Type 0

@@ -14,5 +14,8 @@ pub mod Aggregating
 pub mod WholeTurns
 pub mod Receiving
 pub mod Sparing
+pub mod StepLaws
+pub mod OneList
+pub mod AsOne
 pub mod Laws
 pub mod Examples

@@ -1,31 +1,22 @@
 -- A member's whole turn at each kind of event is a list of the protocol's rules.
-use Rattle.std.specs.Prelude.{◌≡◌, ◌++◌, ◌≤◌, true, length, All}
+use Rattle.std.specs.Prelude.{◌≡◌, ◌++◌, All}
 use Rattle.r2_base.specs.declared.datagram.Datagram.{Datagram}
 use Rattle.r2_base.specs.declared.event.Event.{Event}
 use Rattle.r2_base.specs.declared.event.Event.TheVariants as event
-use Rattle.r2_base.specs.Entry.{is_request}
-use Rattle.r2_base.specs.Limits.{most_body}
-use Rattle.r2_base.specs.Names.{FitsRid}
 use Rattle.hc_member.specs.declared.setup.Setup.{Setup}
 use Rattle.hc_member.specs.Member.{Member}
 use Rattle.hc_member.specs.Setup.{own_address}
 use Rattle.hc_member.specs.Turn.{turned}
-use Rattle.hc_world.specs.Message.{Request}
-use Rattle.hc_world.specs.Protocol.{ProtocolState}
+use Rattle.hc_rules.specs.Protocol.{ProtocolState}
 use Rattle.hc_run.specs.Backed.{IsBackedDatagram, IsMessage, IsRequestPart}
 use Rattle.hc_run.specs.Halves.{IsSteps, Stands, passed_by}
+use Rattle.hc_run.specs.Held.{IsAsked}
 use Rattle.hc_run.specs.WholeTurns.{told_by}
 
 -- a whole turn is rules
 abbrev pub IsTurn : Setup → ProtocolState → Member → Event → Type 0
 IsTurn s w m e =
     IsSteps s w (turned s m e).member (turned s m e).sends (passed_by s.me m ++ w.passed) (told_by s m e w.reports)
-
--- a request is as a client may send it
-pub record IsAsked (q : Request) : Type 0 where
-  pub fits : FitsRid q.rid
-  pub asks : is_request q.kind ≡ true
-  pub short : length q.body ≤ most_body
 
 -- a turn at a tick, and one where nothing comes
 abbrev pub TimedTurnsAreRules : Type 0

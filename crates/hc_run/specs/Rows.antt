@@ -8,11 +8,11 @@ use Rattle.hc_member.specs.Outcome.{Outcome}
 use Rattle.hc_member.specs.Reports.{report_in}
 use Rattle.hc_member.specs.Setup.{IsSetup}
 use Rattle.hc_member.specs.Turn.{row}
-use Rattle.hc_world.specs.Kept.{Kept}
-use Rattle.hc_world.specs.Protocol.{ProtocolState}
-use Rattle.hc_world.specs.Replies.{Answered}
-use Rattle.hc_world.specs.Rules.{Rule, Rise, Stand, AskVotes, GrantVote, SendVote, CountVote, Win, OrderRequest, SendOrder, Confirm, Take, Acknowledge, CommitByCount, CommitByOrder, CommitByAggregate, Aggregate, Apply, Answer, AnswerAgain, AskBody, GiveBody, Yield, NoteReport, NoteOwnReport, NoteAck, Hold, Refuse, RejectOrder, Follow, NoteOrder, Collect, Forget, Crash, Restart, SendRequest}
-use Rattle.hc_world.specs.Runs.{AllAllowed, after_rules}
+use Rattle.hc_rules.specs.Kept.{Kept}
+use Rattle.hc_rules.specs.Protocol.{ProtocolState}
+use Rattle.hc_rules.specs.Replies.{Answered}
+use Rattle.hc_rules.specs.Rules.{Rule, Rise, Stand, AskVotes, GrantVote, SendVote, CountVote, Win, OrderRequest, SendOrder, Confirm, Take, Acknowledge, CommitByCount, CommitByOrder, CommitByAggregate, Aggregate, Apply, Answer, AnswerAgain, AskBody, GiveBody, Yield, NoteReport, NoteOwnReport, NoteAck, Hold, Refuse, RejectOrder, Follow, NoteOrder, Collect, Forget, Crash, Restart, SendRequest}
+use Rattle.hc_rules.specs.Runs.{AllAllowed, after_rules}
 use Rattle.hc_run.specs.Backed.{IsBacked, IsHeardOf}
 use Rattle.hc_run.specs.Shows.{IsShown}
 use Rattle.hc_run.specs.Steps.{heard_report}

@@ -6,16 +6,17 @@ use Rattle.std.specs.Prelude.{List}
 use Rattle.hc_member.specs.declared.setup.Setup.{Setup}
 use Rattle.hc_member.specs.Member.{Member, durable_of}
 use Rattle.hc_member.specs.Sound.{IsSound}
-use Rattle.hc_world.specs.Kept.{Kept}
-use Rattle.hc_world.specs.Log.{In}
-use Rattle.hc_world.specs.Message.{Reply}
-use Rattle.hc_world.specs.Parts.{member_of}
-use Rattle.hc_world.specs.Protocol.{ProtocolState}
-use Rattle.hc_world.specs.Replies.{Answered}
+use Rattle.hc_aggregate.specs.Sound.{IsTally}
+use Rattle.hc_rules.specs.Kept.{Kept}
+use Rattle.hc_rules.specs.Log.{In}
+use Rattle.hc_rules.specs.Message.{Reply}
+use Rattle.hc_rules.specs.Parts.{member_of}
+use Rattle.hc_rules.specs.Protocol.{ProtocolState}
+use Rattle.hc_rules.specs.Replies.{Answered}
 use Rattle.hc_run.specs.Group.{Group, setup_of}
 use Rattle.hc_run.specs.State.{GroupState, Replica, replica_at}
 use Rattle.hc_run.specs.Tied.{IsTied, IsTiedDown, IsTiedTally, passed_in}
-use Rattle.hc_run.specs.Held.{Holds, IsStoredOf}
+use Rattle.hc_run.specs.Held.{Holds, IsAsked, IsStoredOf}
 use Rattle.hc_run.specs.Backed.{IsBackedDatagram}
 
 -- the protocol's group is this one
@@ -49,7 +50,9 @@ pub record Shows (g : Group) (w : ProtocolState) (s : GroupState) : Type 0 where
   pub each : length s.replicas ≡ length g.members
   pub members : (v : ℕ) → v < length g.members → ShowsReplica (setup_of g v) w (replica_at s v)
   pub aggregator : IsTiedTally w.aggregator s.tally
+  pub tally : IsTally (length g.members) s.tally
   pub table : w.table ≡ s.table
+  pub asked : All IsAsked s.table
   pub passed : w.passed ≡ map passed_in s.passed
   pub reports : w.reports ≡ s.reports
   pub replied : (r : Reply) → In r s.replied → In r w.replied

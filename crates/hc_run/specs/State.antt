@@ -6,7 +6,7 @@ use Rattle.hc_log.specs.declared.stored.Stored.{Stored}
 use Rattle.hc_log.specs.Durable.{replay}
 use Rattle.hc_member.specs.Member.{Member, anew}
 use Rattle.hc_aggregate.specs.Tally.{Tally, no_tally}
-use Rattle.hc_world.specs.Message.{Report, Reply, Request}
+use Rattle.hc_rules.specs.Message.{Report, Reply, Request}
 use Rattle.hc_run.specs.Group.{Group}
 
 -- one member's place in a group: the records that it stored, in their order, and what it is while it is up

@@ -22,7 +22,7 @@ use Rattle.hc_member.specs.Sending.{Sending, Reply as ReplyTo, datagrams_of_all}
 use Rattle.hc_member.specs.Turn.{Reacted, turned}
 use Rattle.hc_aggregate.specs.Tally.{no_tally}
 use Rattle.hc_aggregate.specs.Turn.{AggregatorState, sent, turned as aggregator_turned}
-use Rattle.hc_world.specs.Message.{Report, Reply, Request}
+use Rattle.hc_rules.specs.Message.{Report, Reply, Request}
 use Rattle.hc_run.specs.Group.{Group, Receiver, Member, Aggregator, Outside, receiver_at, setup_of}
 use Rattle.hc_run.specs.State.{GroupState, Passed, journal_at, member_at, started, stopped, with_replica}
 use Rattle.hc_run.specs.Events.{GroupEvent, ClientSend, Deliver, Tick, Quiet, Crash, Restart, CrashInTurn, Forget, End}

@@ -10,9 +10,9 @@ use Rattle.hc_member.specs.declared.role.Role.TheVariants as member
 use Rattle.hc_member.specs.Member.{Member}
 use Rattle.hc_member.specs.Reports.{reached_by}
 use Rattle.hc_aggregate.specs.Tally.{Tally, reached_by as tally_reached}
-use Rattle.hc_world.specs.Message.{Aggregator, Passed as ProtocolPassed, Request}
-use Rattle.hc_world.specs.Parts.{MemberOf}
-use Rattle.hc_world.specs.Protocol.{Role, Follower, Candidate, Leader}
+use Rattle.hc_rules.specs.Message.{Aggregator, Passed as ProtocolPassed, Request}
+use Rattle.hc_rules.specs.Parts.{MemberOf}
+use Rattle.hc_rules.specs.Protocol.{Role, Follower, Candidate, Leader}
 use Rattle.hc_run.specs.State.{Passed}
 
 -- a role, by its name in the protocol

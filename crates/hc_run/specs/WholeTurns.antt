@@ -8,8 +8,8 @@ use Rattle.hc_member.specs.Member.{Member}
 use Rattle.hc_member.specs.Outcome.{Outcome}
 use Rattle.hc_member.specs.Reports.{report_in}
 use Rattle.hc_member.specs.Turn.{settled, turned}
-use Rattle.hc_world.specs.Message.{Report}
-use Rattle.hc_world.specs.Protocol.{ProtocolState}
+use Rattle.hc_rules.specs.Message.{Report}
+use Rattle.hc_rules.specs.Protocol.{ProtocolState}
 use Rattle.hc_run.specs.Backed.{IsBacked, IsHeardOf}
 use Rattle.hc_run.specs.Halves.{IsSteps, Stands, passed_by}
 use Rattle.hc_run.specs.Held.{HasTablesParts}

@@ -4,7 +4,7 @@
 
 ghost use Rattle.hc_run.specs.Aggregating.{AggregatingIsRules};
 ghost use Rattle.hc_run.specs.Halves.{CountingIsRules, FinishIsRules, OrderingIsRules};
-ghost use Rattle.hc_run.specs.Sparing.{TurnsSpareOthers};
+ghost use Rattle.hc_run.specs.Sparing.{AggregatorsSpareMembers, ClientsSpareMembers, MembersSpareOthers, TurnsSpareOthers};
 ghost use Rattle.hc_run.specs.WholeTurns.{SettlingIsRules, TurnsAreRules};
 ghost use Rattle.hc_run.specs.Receiving.{DatagramTurnsAreRules, MessageTurnsAreRules, RequestTurnsAreRules, TimedTurnsAreRules};
 ghost use Rattle.hc_run.specs.RowLaws.{AcksAreRules, AggregateCommitsAreRules, NacksAreRules, OrdersAreRules, QuietIsRules, RecoveriesAreRules, RequestsAreRules, RowsAreRules, TicksAreRules, VoteRequestsAreRules, VotesAreRules};
@@ -115,6 +115,21 @@ pub fn request_turns_are_rules()
 /// So a turn is at any datagram that was sent to the member.
 pub fn datagram_turns_are_rules()
     ensures { DatagramTurnsAreRules }
+{}
+
+/// Steps of one member leave the other members, the aggregator and what was sent as they were.
+pub fn members_spare_others()
+    ensures { MembersSpareOthers }
+{}
+
+/// Steps of the aggregator leave every member, and what was sent.
+pub fn aggregators_spare_members()
+    ensures { AggregatorsSpareMembers }
+{}
+
+/// A client's step leaves them too.
+pub fn clients_spare_members()
+    ensures { ClientsSpareMembers }
 {}
 
 /// A whole turn leaves the other members, the aggregator and what was sent as they were.

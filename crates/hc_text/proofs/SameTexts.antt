@@ -15,7 +15,7 @@ use Rattle.r2_base.proofs.Splits.{NoneBefore, split-only}
 use Rattle.hc_replier.specs.Bounds.{AreBounds}
 use Rattle.hc_text.specs.declared.policy.Policy.{Policy}
 use Rattle.hc_text.specs.declared.policy.Policy.TheVariants.{Fixed, Jbsq, Replicated}
-use Rattle.hc_text.specs.Texts.{IsAddrList, IsBoundList, IsBoundsText, IsMemberText, IsNumberText, IsOneBound, IsPolicyText}
+use Rattle.hc_text.specs.Texts.{IsAddrList, IsBoundList, IsBoundsText, IsMemberText, IsNameText, IsNumberText, IsOneBound, IsPolicyText}
 use Rattle.hc_text.proofs.Lists.{FitsBound, IsNamed, parts, parts-addrs, parts-bounds, parts-number, same_items}
 
 pub same_number : (least most a b : ℕ) (text : List ℕ) → most < 2 ^ 64 → IsNumberText least most a text → IsNumberText least most b text → a ≡ b
@@ -32,6 +32,9 @@ same_policy Jbsq Fixed text one other = absurd (omega (arith, ap length (sym one
 same_policy Jbsq Replicated text one other = absurd (omega (arith, ap length (sym one ∙ other)))
 same_policy Replicated Fixed text one other = absurd (omega (arith, ap length (sym one ∙ other)))
 same_policy Replicated Jbsq text one other = absurd (omega (arith, ap length (sym one ∙ other)))
+
+pub same_file_name : (a b text : List ℕ) → IsNameText a text → IsNameText b text → a ≡ b
+same_file_name a b text one other = sym one.1 ∙ other.1
 
 -- ---- addresses
 

@@ -8,7 +8,7 @@ use Rattle.hc_store.specs.Spelling.{FitsCommand}
 use Rattle.hc_store.specs.Replies.{payload_of}
 use Rattle.hc_store.proofs.Spells.{a_spelling_is_read}
 use Rattle.hc_text.specs.declared.command_name.CommandName.{CommandName}
-use Rattle.hc_text.specs.declared.command_name.CommandName.TheVariants.{Router, Aggregator, Server, Client, Replay}
+use Rattle.hc_text.specs.declared.command_name.CommandName.TheVariants.{Replica, Router, Aggregator, Server, Client, Replay, Simulate}
 use Rattle.hc_text.specs.Call.{IsValueText, Says, Spaced}
 use Rattle.hc_text.specs.End.{end_text}
 use Rattle.hc_text.specs.Options.{AreTaken, rows_of_words}
@@ -61,11 +61,13 @@ nothing_without_words : MeanNothing []
 nothing_without_words meant means = none_is_not_some _ (picks [] meant means)
 
 no_command_is_fly : (name : CommandName) → codes "fly" ≡ word_of name → ⊥
+no_command_is_fly Replica same = absurd (omega (arith, ap length same))
 no_command_is_fly Router same = absurd (omega (arith, ap length same))
 no_command_is_fly Aggregator same = absurd (omega (arith, ap length same))
 no_command_is_fly Server same = absurd (omega (arith, ap length same))
 no_command_is_fly Client same = absurd (omega (arith, ap length same))
 no_command_is_fly Replay same = absurd (omega (arith, ap length same))
+no_command_is_fly Simulate same = absurd (omega (arith, ap length same))
 
 fly_means_nothing : MeanNothing (codes "fly" ∷ [])
 fly_means_nothing meant means = no_command_is_fly (name_of meant) (some_same _ _ (picks (codes "fly" ∷ []) meant means))

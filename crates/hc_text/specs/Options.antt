@@ -1,11 +1,12 @@
 -- The options of a command, as `clap` takes them from the words.
-use Rattle.std.specs.Prelude.{◌≡◌, ℕ, List, [], ◌∷◌, Option, Some, None, true, slice_get}
+use Rattle.std.specs.Prelude.{◌≡◌, ◌≢◌, ℕ, Bool, List, [], ◌∷◌, Option, Some, None, true, false, slice_get, codes}
 use Rattle.clap.specs.Words.{App, Row, Rule, first_of, fault_of, is_simple, is_simple_and_free, matches_of, new_rule}
 use Rattle.clap.specs.Simple.{new_shape}
+use Rattle.clap.specs.declared.builder.action.ArgAction.TheVariants.{SetTrue}
 use Rattle.r2_base.specs.declared.addr.Addr.{Addr}
 use Rattle.r2_base.specs.Addr.{IsAddrText}
 use Rattle.hc_text.specs.declared.options.OptionRule.{OptionRule}
-use Rattle.hc_text.specs.declared.options.OptionRule.TheVariants.{Required, Optional, Defaulted}
+use Rattle.hc_text.specs.declared.options.OptionRule.TheVariants.{Required, Optional, Defaulted, Flag}
 
 -- an option that must be given
 abbrev pub required : List ℕ → Rule
@@ -19,11 +20,16 @@ optional name = record (new_rule name) { long = Some name }
 abbrev pub defaulted : List ℕ → List ℕ → Rule
 defaulted name text = record (new_rule name) { long = Some name; defaults = text ∷ [] }
 
+-- an option without a value
+abbrev pub flag : List ℕ → Rule
+flag name = record (new_rule name) { long = Some name; action = Some SetTrue }
+
 -- what `clap` is told of an option
 abbrev pub told : OptionRule → Rule
 told (Required name) = required name.now
 told (Optional name) = optional name.now
 told (Defaulted name text) = defaulted name.now text.now
+told (Flag name) = flag name.now
 
 -- a command with these options, and no flags for help and version
 abbrev pub command_with : List ℕ → List Rule → App
@@ -46,6 +52,11 @@ pub record HasOption (rows : List Row) (name : List ℕ) (Holds : List ℕ → T
 abbrev pub MayHaveAddr : List Row → List ℕ → Option Addr → Type 0
 MayHaveAddr rows name None = first_of name rows ≡ None
 MayHaveAddr rows name (Some a) = HasOption rows name (IsAddrText a)
+
+-- whether the option without a value is given, which `clap` says by a text
+abbrev pub HasFlag : List Row → List ℕ → Bool → Type 0
+HasFlag rows name true = first_of name rows ≡ Some (codes "true")
+HasFlag rows name false = first_of name rows ≢ Some (codes "true")
 
 -- `clap` takes the words after the first as options of the command
 unfoldable pub AreTaken : App → List (List ℕ) → Type 0

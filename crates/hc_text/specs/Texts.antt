@@ -1,5 +1,5 @@
 -- The texts of options.
-use Rattle.std.specs.Prelude.{◌≡◌, ◌≢◌, ◌⊎◌, ℕ, ◌<◌, ◌≤◌, List, AllPairs, All, length, map, replicate, codes, decimal}
+use Rattle.std.specs.Prelude.{◌≡◌, ◌≢◌, ◌⊎◌, ℕ, ◌<◌, ◌≤◌, List, [], AllPairs, All, length, map, replicate, codes, decimal}
 use Rattle.std.specs.List.{join_with_byte}
 use Rattle.r2_base.specs.declared.addr.Addr.{Addr}
 use Rattle.r2_base.specs.Addr.{IsAddrText, addr_text}
@@ -21,9 +21,9 @@ IsTickText = IsNumberText 1 1000
 abbrev pub IsTurnsText : ℕ → List ℕ → Type 0
 IsTurnsText = IsNumberText 1 72057594037927936
 
--- one worker, which is what runs today
+-- 1 to 16 workers
 abbrev pub IsWorkersText : ℕ → List ℕ → Type 0
-IsWorkersText = IsNumberText 1 1
+IsWorkersText = IsNumberText 1 16
 
 -- the word of a policy
 abbrev pub policy_word : Policy → List ℕ
@@ -45,6 +45,10 @@ pub record IsAddrList (most : ℕ) (addrs : List Addr) (text : List ℕ) : Type 
   pub distinct : AllPairs (λ a b. a ≢ b) addrs
   pub named : All (λ a. IsAddrText a (addr_text a)) addrs
   pub joined : text ≡ with_commas (map addr_text addrs)
+
+-- the name of a file, a text that isn't empty
+abbrev pub IsNameText : List ℕ → List ℕ → Type 0
+IsNameText name text = (name ≢ []) × (text ≡ name)
 
 -- the number of one of the members, from 0
 pub record IsMemberText (members : List Addr) (me : ℕ) (text : List ℕ) : Type 0 where

@@ -5,11 +5,13 @@ ghost use Rattle.hc_text.specs.Commands.{word_of};
 /// The commands, each of which is picked by a word.
 #[derive(Debug, Clone, Copy, PartialEq, Eq)]
 pub(crate) enum CommandName {
+    Replica,
     Router,
     Aggregator,
     Server,
     Client,
     Replay,
+    Simulate,
 }
 
 impl CommandName {
@@ -18,6 +20,9 @@ impl CommandName {
         ensures found { IfSome result (λ name. word.now ≡ word_of name) }
         ensures only { (name : NameSpec) → word.now ≡ word_of name → result ≡ Some name }
     {
+        if word == "replica" {
+            return Some(CommandName::Replica);
+        }
         if word == "router" {
             return Some(CommandName::Router);
         }
@@ -32,6 +37,9 @@ impl CommandName {
         }
         if word == "replay" {
             return Some(CommandName::Replay);
+        }
+        if word == "simulate" {
+            return Some(CommandName::Simulate);
         }
         None
     }

@@ -4,13 +4,14 @@ ghost use Rattle.clap.specs.Words.{app_of, first_of, rule_of, with_rule};
 ghost use Rattle.r2_base.specs.declared.addr.Addr.{Addr as AddrSpec};
 ghost use Rattle.r2_base.specs.Addr.{IsAddrText};
 ghost use Rattle.hc_text.specs.declared.policy.Policy.{Policy as PolicySpec};
-ghost use Rattle.hc_text.specs.Options.{command_with, rows_of_words, told, AreTaken, HasOption, IsSimpleCommand, MayHaveAddr};
-ghost use Rattle.hc_text.specs.Texts.{IsAddrList, IsBoundsText, IsNumberText, IsPolicyText};
+ghost use Rattle.hc_text.specs.Options.{command_with, rows_of_words, told, AreTaken, HasFlag, HasOption, IsSimpleCommand, MayHaveAddr};
+ghost use Rattle.hc_text.specs.Texts.{IsAddrList, IsBoundsText, IsNameText, IsNumberText, IsPolicyText};
 
+use crate::name::Name;
 use crate::policy::{Policy, read_policy};
-use crate::texts::{read_addr_list, read_bounds, read_number};
+use crate::texts::{read_addr_list, read_bounds, read_name, read_number};
 use clap::error::ErrorKind;
-use clap::{Arg, ArgMatches, Command};
+use clap::{Arg, ArgAction, ArgMatches, Command};
 use cmd_script::TextFault;
 use hc_replier::Bounds;
 use r2_base::{Addr, Addrs, NoMemory, read_addr};
@@ -26,6 +27,8 @@ pub(crate) enum OptionRule<'a> {
     Optional(&'a str),
     /// It has this text where it is left out.
     Defaulted(&'a str, &'a str),
+    /// It has no value, and may be left out.
+    Flag(&'a str),
 }
 
 impl<'a> OptionRule<'a> {
@@ -40,6 +43,7 @@ impl<'a> OptionRule<'a> {
             OptionRule::Defaulted(name, text) => {
                 Arg::new(alloc, name).long(name).default_value(text)
             }
+            OptionRule::Flag(name) => Arg::new(alloc, name).long(name).action(ArgAction::SetTrue),
         }
     }
 }
@@ -155,6 +159,28 @@ impl<'a> Options<'a> {
             Some(n) => Ok(n),
             None => Err(TextFault::Outside),
         }
+    }
+
+    /// The name of a file that the option is.
+    pub(crate) fn name(&self, alloc: Global, name: &str) -> Result<Name, TextFault>
+        ensures found { IfOk result (λ n. HasOption self.now name.now (IsNameText n)) }
+        ensures only { (n : List ℕ) → HasOption self.now name.now (IsNameText n) → MatchResult result (λ r. r ≡ n) (λ e. e ≡ TextFault.Memory) }
+    {
+        let text = self.given(name)?;
+        read_name(alloc, text)
+    }
+
+    /// Whether the option, which has no value, is given.
+    pub(crate) fn flag(&self, name: &str) -> bool
+        ensures { HasFlag self.now name.now result }
+    {
+        let Some(text) = self.text(name) else {
+            return false;
+        };
+        if text == "true" {
+            return true;
+        }
+        false
     }
 
     /// The policy that the option names.

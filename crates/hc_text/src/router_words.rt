@@ -42,7 +42,7 @@ pub(crate) fn read_router(alloc: Global, options: &Options) -> Result<Meant, Tex
         listen: options.addr("listen")?,
         servers: options.addrs(alloc, "servers", 64)?,
         n: options.number("n", 1, 16)? as u8,
-        workers: options.number("workers", 1, 1)? as u8,
+        workers: options.number("workers", 1, 16)? as u8,
         tick_ms: options.number("tick-ms", 1, 1_000)? as u32,
         turns: options.number("turns", 1, MOST_TURNS)?,
     })

@@ -1,6 +1,6 @@
 //! Examples: what lines and words mean, and what is printed.
 
-use crate::{Meant, Policy, TextFault, client_line, end_text, meaning, policy_of};
+use crate::{Meant, Name, Policy, TextFault, client_line, end_text, meaning, policy_of};
 use hc_replier::Bounds;
 use r2_base::{Addr, Addrs, Bytes, NoMemory};
 use r2_client::CallEnd;
@@ -155,12 +155,12 @@ fn words_of_a_router(rt: HostRuntime) -> Result<(), Fail> {
         listen: SERVER,
         servers: addrs(alloc, &[CLIENT, SERVER])?,
         n: 16,
-        workers: 1,
+        workers: 16,
         tick_ms: 1_000,
         turns: 1,
     };
     let line =
-        "router --servers=10.0.0.9:7001,10.0.0.1:9000 --n 16 --workers=1 --turns 1 --tick-ms 1000 --listen=10.0.0.1:9000";
+        "router --servers=10.0.0.9:7001,10.0.0.1:9000 --n 16 --workers=16 --turns 1 --tick-ms 1000 --listen=10.0.0.1:9000";
     assert!(rt; meant(alloc, line)? == Ok(full));
     Ok(())
 }
@@ -277,6 +277,67 @@ fn words_of_a_replay(rt: HostRuntime) -> Result<(), Fail> {
 }
 
 #[test]
+fn words_of_a_replica(rt: HostRuntime) -> Result<(), Fail> {
+    let alloc = rt.alloc();
+    let alone = Meant::Replica {
+        members: addrs(alloc, &[SERVER])?,
+        me: 0,
+        journal: Name::new(String::from_str(alloc, "a")?),
+        aggregator: None,
+        bounds: bounds(alloc, &[64])?,
+        election: 10,
+        tick_ms: 10,
+        turns: 72_057_594_037_927_936,
+    };
+    let line = "replica --members 10.0.0.1:9000 --me 0 --journal a";
+    assert!(rt; meant(alloc, line)? == Ok(alone));
+    let full = Meant::Replica {
+        members: addrs(alloc, &[SERVER, CLIENT])?,
+        me: 1,
+        journal: Name::new(String::from_str(alloc, "/tmp/=-1")?),
+        aggregator: Some(OTHER),
+        bounds: bounds(alloc, &[0, 3])?,
+        election: 1_000,
+        tick_ms: 1,
+        turns: 7,
+    };
+    let line =
+        "replica --turns=7 --tick-ms 1 --members=10.0.0.1:9000,10.0.0.9:7001 --me 1 --aggregator=10.0.0.1:9001 --bound 0,3 --journal=/tmp/=-1 --election 1000";
+    assert!(rt; meant(alloc, line)? == Ok(full));
+    Ok(())
+}
+
+#[test]
+fn words_of_a_simulation(rt: HostRuntime) -> Result<(), Fail> {
+    let alloc = rt.alloc();
+    let plain = Meant::Simulate {
+        seed: 1,
+        members: 3,
+        requests: 100,
+        loss: 0,
+        repeat: 0,
+        crash: 0,
+        bounds: bounds(alloc, &[64, 64, 64])?,
+        aggregator: false,
+    };
+    assert!(rt; meant(alloc, "simulate")? == Ok(plain));
+    let full = Meant::Simulate {
+        seed: 18_446_744_073_709_551_615,
+        members: 2,
+        requests: 60_000,
+        loss: 90,
+        repeat: 90,
+        crash: 500,
+        bounds: bounds(alloc, &[0, 1_024])?,
+        aggregator: true,
+    };
+    let line =
+        "simulate --aggregator --seed 18446744073709551615 --members=2 --requests 60000 --loss 90 --repeat 90 --crash=500 --bound 0,1024";
+    assert!(rt; meant(alloc, line)? == Ok(full));
+    Ok(())
+}
+
+#[test]
 fn other_words(rt: HostRuntime) -> Result<(), Fail> {
     let table = [
         "fly",
@@ -297,12 +358,21 @@ fn other_words(rt: HostRuntime) -> Result<(), Fail> {
         "replay --members 10.0.0.1:9000,10.0.0.2:9000 --me 0 --bound 1,2,3",
         "replay --members 10.0.0.1:9000,10.0.0.2:9000 --me 0 --bound 1,",
         "replay --members 10.0.0.1:9000,10.0.0.2:9000 --me 0 --bound=",
+        "replica --members 10.0.0.1:9000 --me 0",
+        "replica --members 10.0.0.1:9000 --me 0 --journal=",
+        "replica --members 10.0.0.1:9000 --me 0 --journal a --journal b",
+        "replica --members 10.0.0.1:9000 --me 1 --journal a",
+        "replica --members 10.0.0.1:9000 --me 0 --journal a --listen 10.0.0.1:9000",
+        "replica --members 10.0.0.1:9000 --me 0 --journal a --bound 1,2",
+        "replica --members 10.0.0.1:9000 --me 0 --journal a --tick-ms 0",
+        "replica --members 10.0.0.1:9000 --me 0 --journal a --aggregator 10.0.0.1:9000",
         "router --listen 10.0.0.9:7001",
         "router --servers 10.0.0.1:9000",
         "router --listen 10.0.0.9:7001 --servers 10.0.0.1:9000,10.0.0.1:9000",
         "router --listen 10.0.0.9:7001 --servers 10.0.0.1:9000 --n 0",
         "router --listen 10.0.0.9:7001 --servers 10.0.0.1:9000 --n 17",
-        "router --listen 10.0.0.9:7001 --servers 10.0.0.1:9000 --workers 2",
+        "router --listen 10.0.0.9:7001 --servers 10.0.0.1:9000 --workers 0",
+        "router --listen 10.0.0.9:7001 --servers 10.0.0.1:9000 --workers 17",
         "router --listen 10.0.0.9:7001 --servers 10.0.0.1:9000 --tick-ms 1001",
         "aggregator --listen 10.0.0.9:7001",
         "aggregator --members 10.0.0.1:9000",
@@ -317,6 +387,18 @@ fn other_words(rt: HostRuntime) -> Result<(), Fail> {
         "server --listen 10.0.0.1:9000 --turns 72057594037927937",
         "server --lis 10.0.0.1:9000",
         "server -- --listen 10.0.0.1:9000",
+        "simulate --seed 18446744073709551616",
+        "simulate --seed 01",
+        "simulate --members 0",
+        "simulate --members 8",
+        "simulate --requests 60001",
+        "simulate --loss 91",
+        "simulate --repeat 91",
+        "simulate --crash 501",
+        "simulate --bound 1,2",
+        "simulate --aggregator=true",
+        "simulate --aggregator --aggregator",
+        "simulate --aggregator 10.0.0.9:7001",
         "client --listen 10.0.0.9:7001 --to 10.0.0.1:9000",
         "client --listen 10.0.0.9:7001 --to 10.0.0.1:9000 --policy Fixed",
         "client --listen 10.0.0.9:7001 --to 10.0.0.1:9000,10.0.0.1:9000 --policy fixed",

@@ -3,8 +3,9 @@ ghost use Rattle.std.specs.List.{slice_split};
 ghost use Rattle.r2_base.specs.declared.addr.Addr.{Addr as AddrSpec};
 ghost use Rattle.r2_base.specs.Addr.{IsAddrText};
 ghost use Rattle.hc_replier.specs.Bounds.{AreBounds, most_bound};
-ghost use Rattle.hc_text.specs.Texts.{IsAddrList, IsBoundList, IsBoundsText, IsNumberText};
+ghost use Rattle.hc_text.specs.Texts.{IsAddrList, IsBoundList, IsBoundsText, IsNameText, IsNumberText};
 
+use crate::name::Name;
 use cmd_script::TextFault;
 use hc_replier::{Bounds, MOST_BOUND, are_bounds};
 use r2_base::{Addr, Addrs, read_addr, read_decimal};
@@ -20,6 +21,20 @@ pub(crate) fn read_number(text: &[u8], least: u64, most: u64) -> Option<u64>
         return None;
     }
     Some(n)
+}
+
+/// The name of a file that the text is, which isn't empty.
+pub(crate) fn read_name(alloc: Global, text: &str) -> Result<Name, TextFault>
+    ensures found { IfOk result (λ n. IsNameText n text.now) }
+    ensures only { (name : List ℕ) → IsNameText name text.now → MatchResult result (λ r. r ≡ name) (λ e. e ≡ TextFault.Memory) }
+{
+    if text.is_empty() {
+        return Err(TextFault::Outside);
+    }
+    match String::from_str(alloc, text) {
+        Ok(text) => Ok(Name::new(text)),
+        Err(_) => Err(TextFault::Memory),
+    }
 }
 
 /// The addresses of a text that joins 1 to `most` of them by commas, all distinct.

@@ -12,8 +12,10 @@ use crate::command_name::CommandName;
 use crate::meant::Meant;
 use crate::options::Options;
 use crate::replay_words::{read_replay, replay_command};
+use crate::replica_words::{read_replica, replica_command};
 use crate::router_words::{read_router, router_command};
 use crate::server_words::{read_server, server_command};
+use crate::simulate_words::{read_simulate, simulate_command};
 use clap::Command;
 use cmd_script::TextFault;
 use r2_base::NoMemory;
@@ -51,11 +53,13 @@ fn command<'a>(alloc: Global, name: CommandName) -> Result<Command<'a>, NoMemory
     ensures { IfOk result (λ c. app_of c ≡ command_of name) }
 {
     match name {
+        CommandName::Replica => replica_command(alloc),
         CommandName::Router => router_command(alloc),
         CommandName::Aggregator => aggregator_command(alloc),
         CommandName::Server => server_command(alloc),
         CommandName::Client => client_command(alloc),
         CommandName::Replay => replay_command(alloc),
+        CommandName::Simulate => simulate_command(alloc),
     }
 }
 
@@ -66,10 +70,12 @@ fn read_options(alloc: Global, name: CommandName, options: &Options) -> Result<M
     ensures only { (m : MeantSpec) → name_of m ≡ name → Says m options.now → IfErr result (λ e. e ≡ TextFault.Memory) }
 {
     match name {
+        CommandName::Replica => read_replica(alloc, options),
         CommandName::Router => read_router(alloc, options),
         CommandName::Aggregator => read_aggregator(alloc, options),
         CommandName::Server => read_server(options),
         CommandName::Client => read_client(alloc, options),
         CommandName::Replay => read_replay(alloc, options),
+        CommandName::Simulate => read_simulate(alloc, options),
     }
 }

@@ -1,13 +1,16 @@
 //! Runs of the top call between objects in memory.
 
 use crate::{Status, run};
+use hc_disk::Disk;
 use r2_base::{Addr, Bytes, Datagram, Failed, NoMemory, Numbers, Room};
 use r2_link::{
     Got, Item, Items, Lane, Lanes, Link, LinkFault, MemClock, MemLink, MemSink, MemSource, Sink,
     Source, Twin,
 };
 use std::alloc::Global;
+use std::sync::Wait;
 use std::test::Fail;
+use std::thread::Threads;
 
 /// Gives a byte a call.
 #[derive(Drop)]
@@ -87,6 +90,52 @@ impl Twin for Waiting {
     }
 }
 
+/// A disk each call of which fails.
+#[derive(Drop)]
+struct Broken {
+    faults: u64,
+}
+
+impl Disk for Broken {
+    ghost use Rattle.std.specs.Prelude.{None};
+
+    ghost told = { λ d. None };
+
+    ghost faults = { λ d. d.faults };
+
+    ghost identity = { λ d. 0 };
+
+    fn select(&mut self, _name: &str) -> Result<(), Failed> {
+        self.faults = self.faults.saturating_add(1);
+        Err(Failed)
+    }
+
+    fn length(&mut self) -> Result<u64, Failed> {
+        self.faults = self.faults.saturating_add(1);
+        Err(Failed)
+    }
+
+    fn read_at(&mut self, _at: u64, _into: &mut [u8]) -> Result<usize, Failed> {
+        self.faults = self.faults.saturating_add(1);
+        Err(Failed)
+    }
+
+    fn write_at(&mut self, _at: u64, _piece: &[u8]) -> Result<(), Failed> {
+        self.faults = self.faults.saturating_add(1);
+        Err(Failed)
+    }
+
+    fn cut(&mut self, _len: u64) -> Result<(), Failed> {
+        self.faults = self.faults.saturating_add(1);
+        Err(Failed)
+    }
+
+    fn sync(&mut self) -> Result<(), Failed> {
+        self.faults = self.faults.saturating_add(1);
+        Err(Failed)
+    }
+}
+
 /// What a run is given: its words and its script, and the numbers of the calls that fail, where 0 is none.
 #[derive(Clone, Copy)]
 pub(crate) struct Given<'a> {
@@ -161,8 +210,12 @@ pub(crate) fn words(alloc: Global, line: &[&str]) -> Result<Vec<String>, NoMemor
     Ok(words)
 }
 
-/// A run over a source that gives and a sink that takes a byte a call, and a link that brings nothing.
-pub(crate) fn ran(alloc: Global, given: Given) -> Result<Ended, Fail> {
+/// A run over a source that gives and a sink that takes a byte a call, a link that brings nothing, and a disk that fails.
+pub(crate) fn ran<R: Threads + Wait + Sync + AllocGlobal>(
+    rt: &R,
+    given: Given,
+) -> Result<Ended, Fail> {
+    let alloc = rt.alloc();
     let words = words(alloc, given.words)?;
     let mut drip = Drip {
         inner: source(alloc, given.script, given.source_fails)?,
@@ -177,12 +230,14 @@ pub(crate) fn ran(alloc: Global, given: Given) -> Result<Ended, Fail> {
     };
     let mut moments = clock(alloc)?;
     let status = run(
+        rt,
         alloc,
         words.as_slice(),
         &mut drip,
         &mut sip,
         &mut errors,
         &mut waiting,
+        &mut Broken { faults: 0 },
         &mut moments,
     );
     Ok(Ended {

@@ -3,7 +3,9 @@ use crate::{Status, run_plain};
 use r2_base::{Addr, Bytes, Datagram, NoMemory};
 use r2_link::Item;
 use std::alloc::Global;
+use std::sync::Wait;
 use std::test::Fail;
+use std::thread::Threads;
 
 /// A leader by itself, and a request for an absent key.
 const SCRIPT: &[u8] = b"tick\nin 10.0.0.9:7001 520803C00007000147000161\n";
@@ -39,7 +41,7 @@ fn is_right(ended: &Ended, status: Status, printed: &[u8], errors: &[u8]) -> boo
 
 #[test]
 fn a_byte_a_call_changes_nothing(rt: HostRuntime) -> Result<(), Fail> {
-    let ended = ran(rt.alloc(), unfailing(&WORDS, SCRIPT))?;
+    let ended = ran(&rt, unfailing(&WORDS, SCRIPT))?;
     assert!(rt; is_right(&ended, Status::Done, PRINTED, b""));
     Ok(())
 }
@@ -50,7 +52,7 @@ fn a_failing_source_or_sink_ends_the_run(rt: HostRuntime) -> Result<(), Fail> {
         source_fails: SCRIPT.len() as u64 + 1,
         ..unfailing(&WORDS, SCRIPT)
     };
-    let ended = ran(rt.alloc(), at_the_end)?;
+    let ended = ran(&rt, at_the_end)?;
     assert!(rt;
         is_right(
             &ended,
@@ -63,7 +65,7 @@ fn a_failing_source_or_sink_ends_the_run(rt: HostRuntime) -> Result<(), Fail> {
         sink_fails: FIRST_RECORD.len() as u64 + 1,
         ..unfailing(&WORDS, SCRIPT)
     };
-    let ended = ran(rt.alloc(), after_a_record)?;
+    let ended = ran(&rt, after_a_record)?;
     assert!(rt;
         is_right(
             &ended,
@@ -83,7 +85,7 @@ fn failing_errors_change_no_status(rt: HostRuntime) -> Result<(), Fail> {
         errors_fail: 1,
         ..unfailing(&[], SCRIPT)
     };
-    let ended = ran(rt.alloc(), all_fail)?;
+    let ended = ran(&rt, all_fail)?;
     assert!(rt; is_right(&ended, Status::BadWords, b"", b""));
     Ok(())
 }
@@ -108,7 +110,7 @@ out 10.0.0.9:7001 520813C000030001000000000000000401\n";
         "--election=1",
         "--bound=1",
     ];
-    let ended = ran(rt.alloc(), unfailing(&words, script))?;
+    let ended = ran(&rt, unfailing(&words, script))?;
     assert!(rt; is_right(&ended, Status::Done, want, b""));
     Ok(())
 }
@@ -117,17 +119,21 @@ const FAILED: &[u8] = b"r2p2_suite: the link failed\n";
 
 /// Whether a run of these words over a link that brings nothing prints this, where no call fails, and where one of its first two
 /// fails ends by that.
-fn needs_two_calls(alloc: Global, words: &[&str], printed: &[u8]) -> Result<bool, Fail> {
-    let calm = ran(alloc, unfailing(words, b""))?;
+fn needs_two_calls<R: Threads + Wait + Sync + AllocGlobal>(
+    rt: &R,
+    words: &[&str],
+    printed: &[u8],
+) -> Result<bool, Fail> {
+    let calm = ran(rt, unfailing(words, b""))?;
     let first = ran(
-        alloc,
+        rt,
         Given {
             link_fails: 1,
             ..unfailing(words, b"")
         },
     )?;
     let second = ran(
-        alloc,
+        rt,
         Given {
             link_fails: 2,
             ..unfailing(words, b"")
@@ -143,7 +149,7 @@ fn needs_two_calls(alloc: Global, words: &[&str], printed: &[u8]) -> Result<bool
 #[test]
 fn a_server_binds_its_link_and_then_receives(rt: HostRuntime) -> Result<(), Fail> {
     let server = ["server", "--listen", "10.0.0.1:9000"];
-    assert!(rt; needs_two_calls(rt.alloc(), &server, b"")?);
+    assert!(rt; needs_two_calls(&rt, &server, b"")?);
     Ok(())
 }
 
@@ -154,7 +160,31 @@ fn an_aggregator_binds_its_link_and_then_receives(rt: HostRuntime) -> Result<(),
         "--listen=10.0.0.8:9100",
         "--members=10.0.0.1:9000",
     ];
-    assert!(rt; needs_two_calls(rt.alloc(), &aggregator, b"")?);
+    assert!(rt; needs_two_calls(&rt, &aggregator, b"")?);
+    Ok(())
+}
+
+#[test]
+fn a_replica_selects_its_file_before_it_binds_its_link(rt: HostRuntime) -> Result<(), Fail> {
+    let replica = [
+        "replica",
+        "--members=10.0.0.1:9000",
+        "--me=0",
+        "--journal=kept",
+    ];
+    let first = Given {
+        link_fails: 1,
+        ..unfailing(&replica, b"")
+    };
+    let ended = ran(&rt, first)?;
+    assert!(rt;
+        is_right(
+            &ended,
+            Status::DiskFault,
+            b"",
+            b"r2p2_suite: the disk failed\n"
+        )
+    );
     Ok(())
 }
 
@@ -166,7 +196,7 @@ fn a_router_binds_its_link_and_then_makes_a_twin(rt: HostRuntime) -> Result<(), 
         "--servers=10.0.0.1:9000",
     ];
     let totals = b"turns 0 accepted 0 forwarded 0 answered 0\n";
-    assert!(rt; needs_two_calls(rt.alloc(), &router, totals)?);
+    assert!(rt; needs_two_calls(&rt, &router, totals)?);
     Ok(())
 }
 
@@ -192,7 +222,7 @@ const TICKING: [&[&str]; 3] = [
 #[test]
 fn a_receive_waits_for_a_tick(rt: HostRuntime) -> Result<(), Fail> {
     for line in TICKING {
-        let ended = ran(rt.alloc(), unfailing(line, b"get a\n"))?;
+        let ended = ran(&rt, unfailing(line, b"get a\n"))?;
         assert_eq!(rt; ended.waited, Some(30));
     }
     Ok(())

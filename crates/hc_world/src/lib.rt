@@ -1,8 +1,19 @@
-//! The protocol of a replicated group as rules on a state, and the laws that hold in every run of them.
-//!
-//! The definitions are in `specs/`: the state, the rules and their conditions, what every step keeps, runs and the agreed
-//! list, replies. Nothing here is executed: the module `laws` has a function for each law, and the law is its contract.
+//! A group that runs: real replicas, a real aggregator, and all packets that were ever sent.
 #![tactic(auto)]
 
+mod addresses;
+mod counting;
+mod counts;
+mod event;
+mod group;
 pub mod laws;
-pub mod sequences;
+mod live;
+mod notes;
+mod requests;
+mod seat;
+mod world;
+
+pub use addresses::{AGGREGATOR, CLIENT};
+pub use counts::Counts;
+pub use event::WorldEvent;
+pub use world::World;

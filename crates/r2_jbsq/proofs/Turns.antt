@@ -14,6 +14,7 @@ use Rattle.r2_jbsq.specs.declared.router_setup.RouterSetup.{RouterSetup}
 use Rattle.r2_jbsq.specs.Answer.{answer, decision_at, forward, marks, next_marks, next_sends, reject, sends_of}
 use Rattle.r2_jbsq.specs.History.{Mark, is_forward}
 use Rattle.r2_jbsq.specs.Packets.{BringsRequest, HoldsRequests, answers, asks, is_tick, refusals_among, requests_among}
+use Rattle.r2_jbsq.specs.Laws.{TicksChangeNoCount}
 use Rattle.r2_jbsq.specs.Limits.{most_servers}
 use Rattle.r2_jbsq.specs.Standing.{Standing, closed, next}
 use Rattle.r2_jbsq.specs.State.{IsSound, RouterState, StandsFor, carried_out, counted, passed_on, slots_of, turned}
@@ -177,3 +178,14 @@ decision-few setup s decision.Repeat few = let most = repeats-few setup.me setup
 
 pub turn-few : (setup : RouterSetup) (s : Standing) (given : List Datagram) (d : Decision) → given ≡ sends_of setup s d → length setup.servers ≤ most_servers → length given ≤ most_servers
 turn-few setup s given d sends few = subst (λ (l : List Datagram). length l ≤ most_servers) (sym sends) (decision-few setup s d few)
+
+-- at a tick the oldest are sent again, and where nothing came nothing happens
+pub ticks-change-no-count : TicksChangeNoCount
+unfolding turned sent
+ticks-change-no-count r =
+    record {
+      tick = refl;
+      again = repeats-few r.setup.me r.setup.servers r.standing.rows;
+      quiet = refl;
+      silent = refl;
+    }

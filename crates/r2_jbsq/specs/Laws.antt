@@ -3,7 +3,7 @@ use Rattle.std.specs.Prelude.{◌≡◌, ℕ, ◌+◌, ◌<◌, ◌≤◌, false
 use Rattle.std.specs.List.{list_any, range_with_len}
 use Rattle.r2_base.specs.declared.datagram.Datagram.{Datagram}
 use Rattle.r2_base.specs.declared.event.Event.{Event}
-use Rattle.r2_base.specs.declared.event.Event.TheVariants.{Datagram as DatagramEvent, Quiet}
+use Rattle.r2_base.specs.declared.event.Event.TheVariants.{Datagram as DatagramEvent, Quiet, Tick}
 use Rattle.r2_jbsq.specs.declared.router_setup.RouterSetup.{RouterSetup}
 use Rattle.r2_base.specs.declared.rid.Rid.{Rid}
 use Rattle.r2_jbsq.specs.Answer.{history_after, standing_of}
@@ -12,8 +12,8 @@ use Rattle.r2_base.specs.Names.{same_rid}
 use Rattle.r2_header.specs.Reading.{header_at}
 use Rattle.r2_jbsq.specs.Packets.{is_feedback, is_req0, reads_as}
 use Rattle.r2_jbsq.specs.Standing.{is_known}
-use Rattle.r2_jbsq.specs.State.{RouterState}
-use Rattle.r2_jbsq.specs.Turns.{IsIgnored}
+use Rattle.r2_jbsq.specs.State.{RouterState, counted, turned}
+use Rattle.r2_jbsq.specs.Turns.{IsIgnored, sent}
 
 -- how many requests are open, at all of so many servers together
 abbrev pub open_among : ℕ → List Mark → ℕ
@@ -60,3 +60,15 @@ pub record IgnoresOthers (r : RouterState) : Type 0 where
 -- bytes that are neither a request nor feedback under the policy JBSQ are ignored, and that nothing came
 abbrev pub OthersAreIgnored : Type 0
 OthersAreIgnored = (r : RouterState) → IgnoresOthers r
+
+-- a tick and a wait in which nothing came change no count but that of turns; at a tick each server is sent one datagram at most,
+-- and where nothing came none is sent
+pub record CountsTurnsAlone (r : RouterState) : Type 0 where
+  pub tick : turned r Tick ≡ counted r
+  pub again : length (sent r Tick) ≤ length r.setup.servers
+  pub quiet : turned r Quiet ≡ counted r
+  pub silent : sent r Quiet ≡ []
+
+-- so it is of every router
+abbrev pub TicksChangeNoCount : Type 0
+TicksChangeNoCount = (r : RouterState) → CountsTurnsAlone r

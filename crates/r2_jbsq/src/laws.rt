@@ -1,6 +1,6 @@
 //! What holds of every router and of each of its histories, whatever events come.
 
-ghost use Rattle.r2_jbsq.specs.Laws.{AnsweredRequestsAreNew, CountsAddUp, OthersAreIgnored, RequestsWaitOnlyWhileAllAreFull, ServersHoldAtMostN};
+ghost use Rattle.r2_jbsq.specs.Laws.{AnsweredRequestsAreNew, CountsAddUp, OthersAreIgnored, RequestsWaitOnlyWhileAllAreFull, ServersHoldAtMostN, TicksChangeNoCount};
 
 /// At most n requests are open at a server.
 pub fn servers_hold_at_most_n()
@@ -25,4 +25,9 @@ pub fn answered_requests_are_new()
 /// Bytes that are neither a request nor feedback under the policy JBSQ are ignored by every router.
 pub fn others_are_ignored()
     ensures { OthersAreIgnored }
+{}
+
+/// A tick changes no count but that of turns, and each server is sent one datagram at most; where nothing came nothing is sent.
+pub fn ticks_change_no_count()
+    ensures { TicksChangeNoCount }
 {}

@@ -1,6 +1,8 @@
-//! A key-value server over UDP, its client, its router, and the replay of a replica, in one program.
+//! A replicated key-value service over UDP: replicas and their aggregator, a plain server, its router, their client, and the replay of
+//! a replica, in one program.
 #![tactic(auto)]
 
+use hc_disk::FileDisk;
 use hc_tops::{Status, report, run};
 use r2_link::{MonoClock, StdErrors, StdSink, StdSource, UdpLink};
 use std::io::ErrorKind;
@@ -23,6 +25,7 @@ fn main(rt: HostRuntime) -> ExitCode {
     let mut sink = StdSink::new(&rt);
     let mut errors = StdErrors::new(&rt);
     let mut link = UdpLink::new(&rt);
+    let mut disk = FileDisk::new(&rt);
     let mut clock = MonoClock::new(&rt);
     let words = match words(&rt) {
         Ok(words) => words,
@@ -33,12 +36,14 @@ fn main(rt: HostRuntime) -> ExitCode {
         }
     };
     let status = run(
+        &rt,
         alloc,
         words.as_slice(),
         &mut source,
         &mut sink,
         &mut errors,
         &mut link,
+        &mut disk,
         &mut clock,
     );
     ExitCode::from(status.code())

@@ -32,6 +32,8 @@ rounds-init g c =
       room = (0, omega arith, c.requires.fresh);
       recorded = c.requires.recorded;
       is_open = c.requires.open;
+      same = refl;
+      since = g.met.J.Journal.begins c.args.journal.now;
       steady = record { source = omega arith; sink = omega arith; link = omega arith; clock = c.in-Ok.ensures.steady; disk = omega arith };
     }
 
@@ -89,6 +91,10 @@ rounds-preserved g c =
       room = (ticked.0, omega (arith, ticked.1, heard.1, room.1), ticked.2);
       recorded = c.in_default-ask_clock.ensures.recorded;
       is_open = c.in_default-ask_clock.ensures.open;
+      same = c.in_default-ask_clock.ensures.same ∙ c.in-Ok-true.ensures.same ∙ c.rounds.invariant.same;
+      since = g.met.J.Journal.joins c.args.journal.now c.take_item.new.journal c.ask_clock.new.journal c.in-Ok-true.ensures.open
+          (g.met.J.Journal.joins c.args.journal.now c.rounds.journal c.take_item.new.journal c.rounds.invariant.is_open c.rounds.invariant.since c.in-Ok-true.ensures.since)
+          c.in_default-ask_clock.ensures.since;
       steady = record {
         source = omega arith;
         sink = omega arith;
@@ -104,3 +110,22 @@ returns-clause-ran g c o =
     (record o { link = g.L.Link.told c.args.link.now; clock = g.C.Clock.left c.args.clock.now; records = g.J.Journal.records c.args.journal.now })
     (record o { link = g.L.Link.told c.rounds.link; clock = g.C.Clock.left c.rounds.clock; records = g.J.Journal.records c.rounds.journal })
     (c.rounds.invariant.at o) (omega (arith, c.rounds-test.false, c.rounds.auto.made-end))
+
+-- ---- what happened to the place of the records
+
+pub returns-in_default-clause-since : goal.returns-in_default-clause-since
+returns-in_default-clause-since g c = g.met.J.Journal.begins c.args.journal.now
+
+pub returns-in-Ok-false-clause-since : goal.returns-in-Ok-false-clause-since
+returns-in-Ok-false-clause-since g c =
+    g.met.J.Journal.joins c.args.journal.now c.rounds.journal c.take_item.new.journal c.rounds.invariant.is_open c.rounds.invariant.since c.take_item.ensures.since
+
+pub returns-in-Err-clause-since : goal.returns-in-Err-clause-since
+returns-in-Err-clause-since g c =
+    g.met.J.Journal.joins c.args.journal.now c.rounds.journal c.take_item.new.journal c.rounds.invariant.is_open c.rounds.invariant.since c.take_item.ensures.since
+
+pub returns-in-Err-ask_clock-clause-since : goal.returns-in-Err-ask_clock-clause-since
+returns-in-Err-ask_clock-clause-since g c =
+    g.met.J.Journal.joins c.args.journal.now c.take_item.new.journal c.ask_clock.new.journal c.in-Ok-true.ensures.open
+    (g.met.J.Journal.joins c.args.journal.now c.rounds.journal c.take_item.new.journal c.rounds.invariant.is_open c.rounds.invariant.since c.in-Ok-true.ensures.since)
+    c.in-Err-ask_clock.ensures.since

@@ -14,6 +14,8 @@ invariant-rounds g l = record {
   room : (n : ℕ) × (n ≤ 2 * l.made) × g.P.Party.had_turns n l.party;
   recorded : g.P.Party.recorded l.party (g.J.Journal.records l.journal);
   is_open : g.J.Journal.ended l.journal ≡ None;
+  same : g.J.Journal.identity l.journal ≡ g.J.Journal.identity l.fn.journal;
+  since : g.J.Journal.since l.fn.journal l.journal;
   steady : NoneFalls (record calm { link = g.L.Link.faults l.fn.link; clock = g.C.Clock.faults l.fn.clock; disk = g.J.Journal.faults l.fn.journal })
       (record calm { link = g.L.Link.faults l.link; clock = g.C.Clock.faults l.clock; disk = g.J.Journal.faults l.journal });
 }

@@ -1,0 +1,46 @@
+//! What holds of the loops of every group.
+
+ghost use Rattle.cmd_group.specs.AggregatorLoops.{AggregatorsMakeTurns};
+ghost use Rattle.cmd_group.specs.Examples.{IsWorked};
+ghost use Rattle.cmd_group.specs.LoopLives.{LoopsAreLives, LostRecordsMayStay};
+ghost use Rattle.cmd_group.specs.Loops.{LoopsAreRuns, LoopsServeAsOne};
+ghost use Rattle.cmd_group.specs.Merge.{MergesAreRuns};
+
+/// Whatever the loops of a group and its clients do, one step after another, is seen in a run of the group: the journals, the members
+/// and the requests are the run's, and what was sent is among its datagrams.
+pub fn merges_are_runs()
+    ensures { MergesAreRuns }
+{}
+
+/// The loops of a group, each life of a member one loop that begins with the records that the lives before it left, are a run of the
+/// group: it has their journals and the members that they run, and all that they sent is among its datagrams. So what holds of every
+/// run of a group holds of its loops.
+pub fn loops_are_runs()
+    ensures { LoopsAreRuns }
+{}
+
+/// So the loops of a group serve as one thread.
+pub fn loops_serve_as_one()
+    ensures { LoopsServeAsOne }
+{}
+
+/// A member is asked, its record is kept in a crash before anything is sent, and its next life answers.
+pub fn a_worked_merge()
+    ensures { IsWorked }
+{}
+
+/// A loop of a replica that ended as its contract says is such a life: its journal is what it began with and what it stored since.
+pub fn loops_are_lives()
+    ensures { LoopsAreLives }
+{}
+
+/// Where the disk failed in a turn, the loop is also a life after which the turn's record stays, though it was never acknowledged.
+pub fn lost_records_may_stay()
+    ensures { LostRecordsMayStay }
+{}
+
+/// A loop of an aggregator that ended as its contract says made whole turns, of which all was sent, and broke at most in a last one, of
+/// which a prefix was sent.
+pub fn aggregators_make_turns()
+    ensures { AggregatorsMakeTurns }
+{}

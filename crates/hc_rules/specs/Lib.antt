@@ -1,0 +1,16 @@
+pub mod Majority
+pub mod Log
+pub mod Message
+pub mod Protocol
+pub mod Requests
+pub mod Rules
+pub mod Conditions
+pub mod Kept
+pub mod Parts
+pub mod Runs
+pub mod Agreed
+pub mod Replies
+pub mod Loose
+pub mod Examples
+pub mod Sequences
+pub mod Laws

@@ -1,5 +1,0 @@
-use Rattle.hc_world.proofs.Answers.{applied_is_agreed}
-use Rattle.hc_world.proofs.laws.applied_is_agreed.Goals as goal
-
-pub returns : goal.returns
-returns c = applied_is_agreed

@@ -1,5 +1,0 @@
-use Rattle.hc_world.proofs.Answers.{committed_is_agreed}
-use Rattle.hc_world.proofs.laws.committed_is_agreed.Goals as goal
-
-pub returns : goal.returns
-returns c = committed_is_agreed

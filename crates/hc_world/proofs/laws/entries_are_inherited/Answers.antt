@@ -1,5 +1,0 @@
-use Rattle.hc_world.proofs.Examples.{entries_are_inherited}
-use Rattle.hc_world.proofs.laws.entries_are_inherited.Goals as goal
-
-pub returns : goal.returns
-returns c = entries_are_inherited

@@ -1,5 +1,0 @@
-use Rattle.hc_world.proofs.Examples.{every_rule_is_made}
-use Rattle.hc_world.proofs.laws.every_rule_is_made.Goals as goal
-
-pub returns : goal.returns
-returns c = every_rule_is_made

@@ -1,5 +1,0 @@
-use Rattle.hc_world.proofs.Agreement.{one_term}
-use Rattle.hc_world.proofs.laws.one_term_commits.Goals as goal
-
-pub returns : goal.returns
-returns c = λ w k t u m one two. one_term w k t u m one two

@@ -1,5 +1,0 @@
-use Rattle.hc_world.proofs.Answers.{replies_are_in_order}
-use Rattle.hc_world.proofs.laws.replies_are_in_order.Goals as goal
-
-pub returns : goal.returns
-returns c = replies_are_in_order

@@ -1,5 +1,0 @@
-use Rattle.hc_world.proofs.Answers.{replies_are_the_services}
-use Rattle.hc_world.proofs.laws.replies_are_the_services.Goals as goal
-
-pub returns : goal.returns
-returns c = replies_are_the_services

@@ -1,5 +1,0 @@
-use Rattle.hc_world.proofs.Examples.{requests_are_answered}
-use Rattle.hc_world.proofs.laws.requests_are_answered.Goals as goal
-
-pub returns : goal.returns
-returns c = requests_are_answered

@@ -1,5 +1,0 @@
-use Rattle.hc_world.proofs.Parts.{leaves}
-use Rattle.hc_world.proofs.laws.rules_leave_the_rest.Goals as goal
-
-pub returns : goal.returns
-returns c = leaves

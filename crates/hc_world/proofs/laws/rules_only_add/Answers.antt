@@ -1,5 +1,0 @@
-use Rattle.hc_world.proofs.Grows.{grows}
-use Rattle.hc_world.proofs.laws.rules_only_add.Goals as goal
-
-pub returns : goal.returns
-returns c = λ w r k a. grows w k r a

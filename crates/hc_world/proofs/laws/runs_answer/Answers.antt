@@ -1,5 +1,0 @@
-use Rattle.hc_world.proofs.Answers.{runs_answer}
-use Rattle.hc_world.proofs.laws.runs_answer.Goals as goal
-
-pub returns : goal.returns
-returns c = runs_answer

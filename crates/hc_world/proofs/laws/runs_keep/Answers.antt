@@ -1,5 +1,0 @@
-use Rattle.hc_world.proofs.Answers.{runs_keep}
-use Rattle.hc_world.proofs.laws.runs_keep.Goals as goal
-
-pub returns : goal.returns
-returns c = runs_keep

@@ -1,5 +1,0 @@
-use Rattle.hc_world.proofs.Agreement.{agreed_is}
-use Rattle.hc_world.proofs.laws.the_agreed_list_is_agreed.Goals as goal
-
-pub returns : goal.returns
-returns c = λ w k. agreed_is w k

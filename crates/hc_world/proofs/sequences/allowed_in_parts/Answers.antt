@@ -1,5 +1,0 @@
-use Rattle.hc_world.proofs.RuleLists.{allowed_in_parts}
-use Rattle.hc_world.proofs.sequences.allowed_in_parts.Goals as goal
-
-pub returns : goal.returns
-returns c = allowed_in_parts

@@ -1,5 +1,0 @@
-use Rattle.hc_world.proofs.RuleLists.{same_group}
-use Rattle.hc_world.proofs.sequences.groups_stay_the_same.Goals as goal
-
-pub returns : goal.returns
-returns c = same_group

@@ -1,5 +1,0 @@
-use Rattle.hc_world.proofs.RuleLists.{parts_are_allowed}
-use Rattle.hc_world.proofs.sequences.parts_are_allowed.Goals as goal
-
-pub returns : goal.returns
-returns c = parts_are_allowed

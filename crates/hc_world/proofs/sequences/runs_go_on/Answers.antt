@@ -1,5 +1,0 @@
-use Rattle.hc_world.proofs.RuleLists.{runs_go_on}
-use Rattle.hc_world.proofs.sequences.runs_go_on.Goals as goal
-
-pub returns : goal.returns
-returns c = runs_go_on

@@ -1,5 +1,0 @@
-use Rattle.hc_world.proofs.RuleLists.{rules_answer}
-use Rattle.hc_world.proofs.sequences.sequences_answer.Goals as goal
-
-pub returns : goal.returns
-returns c = rules_answer

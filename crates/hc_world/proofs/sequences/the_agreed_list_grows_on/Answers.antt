@@ -1,5 +1,0 @@
-use Rattle.hc_world.proofs.RuleLists.{agreed_grows_on}
-use Rattle.hc_world.proofs.sequences.the_agreed_list_grows_on.Goals as goal
-
-pub returns : goal.returns
-returns c = agreed_grows_on

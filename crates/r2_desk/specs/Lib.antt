@@ -1,0 +1,9 @@
+pub mod Limits
+pub mod States
+pub mod Counts
+pub mod Trails
+pub mod Turns
+pub mod Passes
+pub mod Made
+pub mod Closing
+pub mod Faults
