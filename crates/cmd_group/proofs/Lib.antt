@@ -2,6 +2,7 @@ pub mod Received
 pub mod Beginnings
 pub mod Merges
 pub mod Lives
+pub mod InOrder
 pub mod Loops
 pub mod LoopLives
 pub mod Examples

@@ -1,5 +1,5 @@
 -- Loops that are merged may do what they do, so they are a run.
-use Rattle.std.proofs.Common.{◌≡◌, ℕ, ◌<◌, Bool, true, false, List, [], ◌∷◌, get_or, length, Option, None, Some, refl, sym, ap, subst, ◌∙◌, arith, inl, inr}
+use Rattle.std.proofs.Common.{◌≡◌, ℕ, ◌<◌, Bool, true, false, List, [], ◌∷◌, ◌++◌, get_or, length, Option, None, Some, refl, sym, ap, subst, ◌∙◌, arith, inl, inr}
 use Rattle.std.specs.Prelude.{◌==◌, ◌≢◌, ◌⊎◌, if◌then◌else◌}
 use Rattle.std.proofs.lemmas.Bool.{eqb-true, eqb-false}
 use Rattle.std.proofs.lemmas.List.{get_or-replicate, get_or-set_same, get_or-set_other, length-replicate, length-set}
@@ -7,20 +7,24 @@ use Rattle.r2_base.specs.declared.datagram.Datagram.{Datagram}
 use Rattle.hc_rules.specs.Log.{In}
 use Rattle.hc_run.specs.Group.{Group, setup_of}
 use Rattle.hc_run.specs.State.{Replica, stopped}
+use Rattle.hc_run.specs.Events.{GroupEvent}
+use Rattle.hc_run.specs.OneList.{ListGrows}
+use Rattle.hc_run.specs.Runs.{IsRun, run}
 use Rattle.hc_run.specs.Steps.{request_parts}
-use Rattle.hc_run.proofs.WholeRuns.{groups_serve_as_one}
+use Rattle.hc_run.proofs.Items.{in-left, in-parts, in-right}
+use Rattle.hc_run.proofs.WholeRuns.{groups_serve_as_one, the_list_grows}
 use Rattle.cmd_group.specs.Steps.{Act, Step, Asks, Acts, Aggregates, BeginsAnew, acts_at, of_aggregators}
 use Rattle.cmd_group.specs.Members.{MayAll, place_after, places_after, sends_by, sends_of_all}
-use Rattle.cmd_group.specs.Merge.{Loops, MayFollow, after_step, after_steps, begun, place_at}
+use Rattle.cmd_group.specs.Merge.{Loops, MayFollow, after_step, after_steps, begun, loops_after, place_at}
 use Rattle.cmd_group.specs.Lives.{place_of_lives, sent_in_lives}
-use Rattle.cmd_group.specs.Loops.{AllCome, LoopsAreRuns, LoopsServeAsOne}
+use Rattle.cmd_group.specs.Loops.{AllCome, ComesBefore, LoopsAreRuns, LoopsServeAsOne}
 use Rattle.hc_aggregate.specs.Tally.{Tally}
 use Rattle.r2_base.specs.declared.addr.Addr.{Addr}
 use Rattle.cmd_group.specs.AggregatorLoops.{AggregatorLife, AreAggregatorLives, steps_of_lives}
 use Rattle.cmd_group.proofs.AggregatorLoops.{AllMayAggregate, lives-may, lives-send, others-may, others-send, sends_of_steps}
+use Rattle.cmd_group.proofs.InOrder.{asked-new, come-later, comes-before, run-earlier, table-asked}
 use Rattle.cmd_group.proofs.Lives.{Does, lives-do}
 use Rattle.cmd_group.proofs.Merges.{merges_are_runs}
-use Rattle.cmd_group.proofs.Received.{in-left, in-parts, in-right}
 
 -- the acts of a member, where the next step is an act of this one or of another
 own-acts : (v : ℕ) (act : Act) (more : List Step) → acts_at v (Acts v act ∷ more) ≡ act ∷ acts_at v more
@@ -198,6 +202,10 @@ loops_are_runs g lives counting steps is loops =
     record {
       events = has.events;
       is = has.is;
+      seen = shown;
+      earlier = has.earlier;
+      in_turn = has.in_turn;
+      table = sym shown.table ∙ table-asked g s steps;
       places =
           λ v inside.
           let one = does v inside in
@@ -216,4 +224,33 @@ loops_are_runs g lives counting steps is loops =
 pub loops_serve_as_one : LoopsServeAsOne
 loops_serve_as_one g lives counting steps is loops =
     let has = loops_are_runs g lives counting steps is loops in
-    record { has = has; as_one = groups_serve_as_one g has.events is has.is }
+    let one = groups_serve_as_one g has.events is has.is in
+    record {
+      has = has;
+      as_one = one;
+      grows =
+          record {
+            in_turn =
+                λ before more after first second.
+                let now = has.earlier before (more ++ after) first in
+                let next = has.earlier (before ++ more) after second in
+                let between = has.in_turn before more after first second in
+                subst (λ (l : List GroupEvent). ListGrows (run g now.earlier) (run g l)) (sym between.split)
+                (the_list_grows g now.earlier between.later is (subst (IsRun g) between.split (run-earlier g next.earlier next.later has.events has.is next.split)));
+            at_last =
+                λ before after whole.
+                let now = has.earlier before after whole in
+                subst (λ (l : List GroupEvent). ListGrows (run g now.earlier) (run g l)) now.split
+                (the_list_grows g now.earlier now.later is (subst (IsRun g) (sym now.split) has.is));
+          };
+      replies =
+          λ v inside d there reads.
+          let part = one.parts d (has.sent v inside d there) reads in record { part = part; right = one.replies part.reply part.there };
+      order =
+          λ before after d whole there reads.
+          let at = has.earlier before after whole in
+          let s = loops_after g before in
+          let come = come-later g (begun g) before after (subst (λ (l : List Step). AllCome g (begun g) l) (sym whole) loops.come) in
+          subst (λ (l : List GroupEvent). ComesBefore g (run g l) after d) at.split
+          (comes-before g at.earlier at.later s after d is (subst (IsRun g) (sym at.split) has.is) at.seen (asked-new g s after come) there reads);
+    }

@@ -17,12 +17,15 @@ use Rattle.hc_run.specs.Group.{Group, IsGroup, Receiver, Member, Aggregator, rec
 use Rattle.hc_run.specs.State.{GroupState, Replica, beginning, journal_at, member_at, stopped}
 use Rattle.hc_run.specs.Events.{GroupEvent, ClientSend, Deliver, Tick, Quiet, Crash, Restart, Forget, End, IsNew, IsPossible}
 use Rattle.hc_run.specs.Runs.{ArePossible, after_events}
+use Rattle.hc_run.specs.Staying.{IsExtendedTo}
 use Rattle.hc_run.specs.Steps.{asked, aggregates, comes_to, crashes, delivered, ends, happens, makes_turn, request_parts, step, stops, where_up, with_finished, with_heard, with_sent, with_stored}
+use Rattle.hc_run.proofs.Items.{in-left, in-parts, in-right}
+use Rattle.hc_run.proofs.WholeRuns.{events-follow}
 use Rattle.cmd_group.specs.Steps.{Act, Turns, Breaks, Stops, Closes, Begins, Step, Asks, Acts, Aggregates, BeginsAnew}
 use Rattle.cmd_group.specs.Members.{AreFirst, MayBy, closing_sends, event_of, place_by, sends_by}
-use Rattle.cmd_group.specs.Merge.{IsSeenIn, IsTakenIn, Loops, MayAggregate, MayCome, MayDo, MayFollow, MergesAreRuns, after_step, after_steps, aggregator_at, begun}
+use Rattle.cmd_group.specs.Merge.{IsSeenIn, IsTakenIn, Loops, MayAggregate, MayCome, MayDo, MayFollow, MergesAreRuns, after_step, after_steps, aggregator_at, begun, loops_after}
 use Rattle.cmd_group.proofs.Beginnings.{all-stop}
-use Rattle.cmd_group.proofs.Received.{in-left, in-parts, in-right, number-of, received-by-aggregator, received-by-member}
+use Rattle.cmd_group.proofs.Received.{number-of, received-by-aggregator, received-by-member}
 
 -- Ways --
 
@@ -31,10 +34,6 @@ record Leads (g : Group) (t : GroupState) (s : Loops) : Type 0 where
   events : List GroupEvent
   possible : ArePossible g t events
   seen : IsSeenIn (after_events g t events) s
-
-follow : (g : Group) (t : GroupState) (events more : List GroupEvent) → after_events g t (events ++ more) ≡ after_events g (after_events g t events) more
-follow g t [] more = refl
-follow g t (e ∷ events) more = follow g (step g t e) events more
 
 both-possible : (g : Group) (t : GroupState) (events more : List GroupEvent) → ArePossible g t events → ArePossible g (after_events g t events) more
     → ArePossible g t (events ++ more)
@@ -46,7 +45,7 @@ leads-then g t s events may rest =
     record {
       events = events ++ rest.events;
       possible = both-possible g t events rest.events may rest.possible;
-      seen = subst (λ (u : GroupState). IsSeenIn u s) (sym (follow g t events rest.events)) rest.seen;
+      seen = subst (λ (u : GroupState). IsSeenIn u s) (sym (events-follow g t events rest.events)) rest.seen;
     }
 
 leads-none : (g : Group) (t : GroupState) (s : Loops) → IsSeenIn t s → Leads g t s
@@ -63,6 +62,99 @@ step-seen g t u e s same seen =
 leads-by : (g : Group) (t u : GroupState) (e : GroupEvent) (s : Loops) → IsPossible g t e → happens g e t ≡ u → IsSeenIn u s → Leads g t s
 leads-by g t u e s may same seen =
     record { events = e ∷ []; possible = (may, tt); seen = step-seen g t u e s same seen }
+
+-- Moments --
+
+-- a moment of events that lead on from a state, at which loops are seen
+record Moment (g : Group) (t : GroupState) (events : List GroupEvent) (s : Loops) : Type 0 where
+  earlier : List GroupEvent
+  later : List GroupEvent
+  split : earlier ++ later ≡ events
+  seen : IsSeenIn (after_events g t earlier) s
+
+-- before all of them
+moment-now : (g : Group) (t : GroupState) (events : List GroupEvent) (s : Loops) → IsSeenIn t s → Moment g t events s
+moment-now g t events s seen = record { earlier = []; later = events; split = refl; seen = seen }
+
+-- or after some
+moment-later : (g : Group) (t : GroupState) (events more : List GroupEvent) (s : Loops) → Moment g (after_events g t events) more s → Moment g t (events ++ more) s
+moment-later g t events more s m =
+    record {
+      earlier = events ++ m.earlier;
+      later = m.later;
+      split = append_assoc events m.earlier m.later ∙ ap (λ (l : List GroupEvent). events ++ l) m.split;
+      seen = subst (λ (u : GroupState). IsSeenIn u s) (sym (events-follow g t events m.earlier)) m.seen;
+    }
+
+-- possible events that go on from a state of the group as steps go on from loops
+record Goes (g : Group) (t : GroupState) (s : Loops) (steps : List Step) : Type 0 where
+  events : List GroupEvent
+  possible : ArePossible g t events
+  seen : IsSeenIn (after_events g t events) (after_steps g s steps)
+  earlier : (before after : List Step) → before ++ after ≡ steps → Moment g t events (after_steps g s before)
+  in_turn : (before more after : List Step) (first : before ++ (more ++ after) ≡ steps) (then : (before ++ more) ++ after ≡ steps)
+      → IsExtendedTo (earlier before (more ++ after) first).earlier (earlier (before ++ more) after then).earlier
+
+none-earlier : (g : Group) (t : GroupState) (s : Loops) → IsSeenIn t s → (before after : List Step) → before ++ after ≡ [] → Moment g t [] (after_steps g s before)
+none-earlier g t s seen [] after e = moment-now g t [] s seen
+none-earlier g t s seen (x ∷ before) after e = absurd cc
+
+none-in-turn : (g : Group) (t : GroupState) (s : Loops) (seen : IsSeenIn t s) (before more after : List Step) (first : before ++ (more ++ after) ≡ []) (then : (before ++ more) ++ after ≡ [])
+    → IsExtendedTo (none-earlier g t s seen before (more ++ after) first).earlier (none-earlier g t s seen (before ++ more) after then).earlier
+unfolding none-earlier moment-now
+none-in-turn g t s seen [] more after first then = record { later = (none-earlier g t s seen more after then).earlier; split = refl }
+none-in-turn g t s seen (x ∷ before) more after first then = absurd cc
+
+goes-none : (g : Group) (t : GroupState) (s : Loops) → IsSeenIn t s → Goes g t s []
+goes-none g t s seen = record { events = []; possible = tt; seen = seen; earlier = none-earlier g t s seen; in_turn = none-in-turn g t s seen }
+
+same-first : (x y : Step) (l more : List Step) → x ∷ l ≡ y ∷ more → x ≡ y
+same-first x y l more e = cc
+
+same-rest : (x y : Step) (l more : List Step) → x ∷ l ≡ y ∷ more → l ≡ more
+same-rest x y l more e = cc
+
+extended-after : (l before now : List GroupEvent) → IsExtendedTo before now → IsExtendedTo (l ++ before) (l ++ now)
+extended-after l before now one =
+    record { later = one.later; split = ap (λ (x : List GroupEvent). l ++ x) one.split ∙ sym (append_assoc l before one.later) }
+
+module _ (g : Group) (t : GroupState) (s : Loops) (next : Step) (more : List Step) (seen : IsSeenIn t s) (first : Leads g t (after_step g s next))
+    (rest : Goes g (after_events g t first.events) (after_step g s next) more) where
+  -- the moments of the steps that follow a first one
+  rest-earlier : (x : Step) (before after : List Step) → x ≡ next → before ++ after ≡ more → Moment g t (first.events ++ rest.events) (after_steps g (after_step g s x) before)
+  unfolding moment-later
+  rest-earlier x before after same e =
+      let m = moment-later g t first.events rest.events (after_steps g (after_step g s next) before) (rest.earlier before after e) in
+      record {
+        earlier = first.events ++ (rest.earlier before after e).earlier;
+        later = m.later;
+        split = m.split;
+        seen = subst (λ (y : Step). IsSeenIn (after_events g t m.earlier) (after_steps g (after_step g s y) before)) (sym same) m.seen;
+      }
+
+  then-earlier : (before after : List Step) → before ++ after ≡ next ∷ more → Moment g t (first.events ++ rest.events) (after_steps g s before)
+  then-earlier [] after e = moment-now g t (first.events ++ rest.events) s seen
+  then-earlier (x ∷ before) after e = rest-earlier x before after (same-first x next (before ++ after) more e) (same-rest x next (before ++ after) more e)
+
+  then-in-turn : (before between after : List Step) (one : before ++ (between ++ after) ≡ next ∷ more) (two : (before ++ between) ++ after ≡ next ∷ more)
+      → IsExtendedTo (then-earlier before (between ++ after) one).earlier (then-earlier (before ++ between) after two).earlier
+  unfolding then-earlier rest-earlier moment-now moment-later
+  then-in-turn [] between after one two = record { later = (then-earlier between after two).earlier; split = refl }
+  then-in-turn (x ∷ before) between after one two =
+      let now = same-rest x next (before ++ (between ++ after)) more one in
+      let then = same-rest x next ((before ++ between) ++ after) more two in
+      extended-after first.events (rest.earlier before (between ++ after) now).earlier (rest.earlier (before ++ between) after then).earlier
+      (rest.in_turn before between after now then)
+
+  goes-then : Goes g t s (next ∷ more)
+  goes-then =
+      record {
+        events = first.events ++ rest.events;
+        possible = both-possible g t first.events rest.events first.possible rest.possible;
+        seen = subst (λ (u : GroupState). IsSeenIn u (after_steps g (after_step g s next) more)) (sym (events-follow g t first.events rest.events)) rest.seen;
+        earlier = then-earlier;
+        in_turn = then-in-turn;
+      }
 
 -- What is sent --
 
@@ -290,18 +382,30 @@ module _ (g : Group) (is : IsGroup g) where
       let same : seen t s.sent ≡ s = λ k. record { replicas = sym there.replicas k; tally = sym there.tally k; sent = s.sent; table = sym there.table k } in
       subst (λ (x : Loops). MayCome g x next → MayDo g x next → Leads g t (after_step g x next)) same (step-leads t s.sent next there.sent)
 
-  all-lead : (t : GroupState) (s : Loops) (steps : List Step) → IsSeenIn t s → MayFollow g s steps → Leads g t (after_steps g s steps)
-  all-lead t s [] there may = leads-none g t s there
-  all-lead t s (next ∷ more) there may =
+  all-go : (t : GroupState) (s : Loops) (steps : List Step) → IsSeenIn t s → MayFollow g s steps → Goes g t s steps
+  all-go t s [] there may = goes-none g t s there
+  all-go t s (next ∷ more) there may =
       let first = one-leads t s next there may.0 may.1 in
-      let u = after_events g t first.events in
-      leads-then g t (after_steps g (after_step g s next) more) first.events first.possible (all-lead u (after_step g s next) more first.seen may.2)
+      goes-then g t s next more there first (all-go (after_events g t first.events) (after_step g s next) more first.seen may.2)
 
 pub merges_are_runs : MergesAreRuns
+unfolding moment-later
 merges_are_runs g steps is merge =
     let first = all-stop g in
     let t = after_events g (beginning g) first.events in
-    let leads =
-    leads-then g (beginning g) (after_steps g (begun g) steps) first.events first.possible
-    (all-lead g is t (begun g) steps (record { replicas = sym first.replicas; tally = sym first.tally; table = sym first.table; sent = λ d there. absurd there }) merge.may) in
-    record { events = leads.events; is = record { possible = leads.possible }; seen = leads.seen }
+    let goes =
+    all-go g is t (begun g) steps (record { replicas = sym first.replicas; tally = sym first.tally; table = sym first.table; sent = λ d there. absurd there }) merge.may in
+    record {
+      events = first.events ++ goes.events;
+      is = record { possible = both-possible g (beginning g) first.events goes.events first.possible goes.possible };
+      seen =
+          subst (λ (u : GroupState). IsSeenIn u (loops_after g steps)) (sym (events-follow g (beginning g) first.events goes.events)) goes.seen;
+      earlier =
+          λ before after e.
+          let m = moment-later g (beginning g) first.events goes.events (loops_after g before) (goes.earlier before after e) in
+          record { earlier = m.earlier; later = m.later; split = m.split; seen = m.seen };
+      in_turn =
+          λ before more after one two.
+          extended-after first.events (goes.earlier before (more ++ after) one).earlier (goes.earlier (before ++ more) after two).earlier
+          (goes.in_turn before more after one two);
+    }

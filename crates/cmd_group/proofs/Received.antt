@@ -1,6 +1,6 @@
 -- Who receives at the address of a member, and at that of the aggregator; and the number of what was sent.
-use Rattle.std.proofs.Common.{◌≡◌, ℕ, suc, ◌<◌, Bool, true, List, [], ◌∷◌, ◌++◌, get_or, Option, None, Some, refl, sym, ap, subst, ◌∙◌, arith, inl, inr}
-use Rattle.std.specs.Prelude.{◌⊎◌, ◌≢◌, All, IfSome, is_some, position, slice_get}
+use Rattle.std.proofs.Common.{◌≡◌, ℕ, suc, ◌<◌, Bool, true, List, [], ◌∷◌, get_or, Option, None, Some, refl, sym, ap, subst, ◌∙◌, arith, inl, inr}
+use Rattle.std.specs.Prelude.{◌≢◌, All, IfSome, is_some, position, slice_get}
 use Rattle.std.proofs.lemmas.List.Elements.{All-get_or}
 use Rattle.std.proofs.lemmas.List.Folds.{list_any_at}
 use Rattle.std.proofs.lemmas.List.Quantifiers.{position-Some}
@@ -14,24 +14,6 @@ use Rattle.hc_rules.specs.Log.{In}
 use Rattle.hc_run.specs.Group.{Group, IsGroup, Member, Aggregator, receiver_at, receiver_by}
 
 -- Lists --
-
-pub in-left : {A : Type 0} (x : A) (l more : List A) → In x l → In x (l ++ more)
-in-left x [] more there = absurd there
-in-left x (y ∷ l) more (inl same) = inl same
-in-left x (y ∷ l) more (inr later) = inr (in-left x l more later)
-
-pub in-right : {A : Type 0} (x : A) (l more : List A) → In x more → In x (l ++ more)
-in-right x [] more there = there
-in-right x (y ∷ l) more there = inr (in-right x l more there)
-
-pub in-parts : {A : Type 0} (x : A) (l more : List A) → In x (l ++ more) → In x l ⊎ In x more
-in-parts x [] more there = inr there
-in-parts x (y ∷ l) more (inl same) = inl (inl same)
-in-parts x (y ∷ l) more (inr later) =
-    elim (in-parts x l more later) [
-      | inl here ↦ inl (inr here)
-      | inr there ↦ inr there
-    ]
 
 -- the place of an item
 pub record HasNumber {A : Type 0} (x : A) (l : List A) : Type 0 where

@@ -13,6 +13,7 @@ use Rattle.hc_run.specs.Group.{Group, IsGroup, setup_of}
 use Rattle.hc_run.specs.State.{GroupState, Replica, stopped}
 use Rattle.hc_run.specs.Events.{GroupEvent, IsNew}
 use Rattle.hc_run.specs.Runs.{IsRun, run}
+use Rattle.hc_run.specs.Staying.{IsExtendedTo}
 use Rattle.hc_run.specs.Steps.{request_parts}
 use Rattle.cmd_group.specs.Steps.{Act, Step, Asks, Acts, Aggregates, BeginsAnew}
 use Rattle.cmd_group.specs.Members.{AreFirst, MayBy, event_of, place_after, sends_by}
@@ -61,6 +62,10 @@ after_step g s (BeginsAnew me) = record s { tally = no_tally (length g.members) 
 -- and after steps
 abbrev pub after_steps : Group → Loops → List Step → Loops
 after_steps g s steps = fold (after_step g) s steps
+
+-- the loops of a group after steps from the beginning on
+abbrev pub loops_after : Group → List Step → Loops
+loops_after g steps = after_steps g (begun g) steps
 
 -- Merges --
 
@@ -113,12 +118,31 @@ pub record IsSeenIn (t : GroupState) (s : Loops) : Type 0 where
   pub table : s.table ≡ t.table
   pub sent : (d : Datagram) → In d s.sent → In d t.datagrams
 
--- a run of the group in which loops are seen
-pub record HasRun (g : Group) (s : Loops) : Type 0 where
+-- a moment of a run at which loops are seen in it: after its earlier events, from which it goes on by the later ones
+pub record IsSeenAt (g : Group) (events : List GroupEvent) (s : Loops) : Type 0 where
+  pub earlier : List GroupEvent
+  pub later : List GroupEvent
+  pub split : earlier ++ later ≡ events
+  pub seen : IsSeenIn (run g earlier) s
+
+-- loops are seen so after each earlier part of their steps
+abbrev pub AreSeenEarlier : Group → List Step → List GroupEvent → Type 0
+AreSeenEarlier g steps events = (before after : List Step) → before ++ after ≡ steps → IsSeenAt g events (loops_after g before)
+
+-- and after more of the steps at the same moment or a later one
+abbrev pub AreSeenInTurn : (g : Group) (steps : List Step) (events : List GroupEvent) → AreSeenEarlier g steps events → Type 0
+AreSeenInTurn g steps events earlier =
+    (before more after : List Step) (first : before ++ (more ++ after) ≡ steps) (second : (before ++ more) ++ after ≡ steps)
+    → IsExtendedTo (earlier before (more ++ after) first).earlier (earlier (before ++ more) after second).earlier
+
+-- a run of the group in which its loops are seen after these steps, and earlier after each earlier part of them
+pub record HasRun (g : Group) (steps : List Step) : Type 0 where
   pub events : List GroupEvent
   pub is : IsRun g events
-  pub seen : IsSeenIn (run g events) s
+  pub seen : IsSeenIn (run g events) (loops_after g steps)
+  pub earlier : AreSeenEarlier g steps events
+  pub in_turn : AreSeenInTurn g steps events earlier
 
--- after each merge the loops of a group are seen in a run of it
+-- so it is with each merge of the loops of a group
 abbrev pub MergesAreRuns : Type 0
-MergesAreRuns = (g : Group) (steps : List Step) → IsGroup g → IsMerge g steps → HasRun g (after_steps g (begun g) steps)
+MergesAreRuns = (g : Group) (steps : List Step) → IsGroup g → IsMerge g steps → HasRun g steps

@@ -31,6 +31,12 @@ pub data Step : Type 0 where
   -- a new loop of an aggregator begins
   BeginsAnew : Addr → Step
 
+-- the requests that clients send in some steps, in the order of their first sending
+abbrev pub asked_in : List Step → List Request
+asked_in [] = []
+asked_in (Asks q ∷ more) = q ∷ asked_in more
+asked_in (_ ∷ more) = asked_in more
+
 -- what the loop of member v does over some steps
 abbrev pub acts_at : ℕ → List Step → List Act
 acts_at v [] = []

@@ -7,24 +7,30 @@ ghost use Rattle.cmd_group.specs.Loops.{LoopsAreRuns, LoopsServeAsOne};
 ghost use Rattle.cmd_group.specs.Merge.{MergesAreRuns};
 
 /// Whatever the loops of a group and its clients do, one step after another, is seen in a run of the group: the journals, the members
-/// and the requests are the run's, and what was sent is among its datagrams.
+/// and the requests are the run's, and what was sent is among its datagrams. So it is after the steps, and after each earlier part of
+/// them at an earlier moment of the same run.
 pub fn merges_are_runs()
     ensures { MergesAreRuns }
 {}
 
 /// The loops of a group, each life of a member one loop that begins with the records that the lives before it left, are a run of the
-/// group: it has their journals and the members that they run, and all that they sent is among its datagrams. So what holds of every
-/// run of a group holds of its loops.
+/// group: it has their journals and the members that they run, the requests that clients sent, in the order of their first sending, and
+/// all that they sent is among its datagrams. So what holds of every run of a group holds of its loops, and what a run says of an
+/// earlier moment and a later one holds of an earlier step and a later one.
 pub fn loops_are_runs()
     ensures { LoopsAreRuns }
 {}
 
-/// So the loops of a group serve as one thread.
+/// So the loops of a group serve as one thread. There is one list of entries, which from step to step only grows. Each datagram that a
+/// loop sent and that reads as a part of a reply is a part of one that has the index and the payload that one thread gives it which
+/// serves the list from its beginning. And where a loop sent it before a step in which a client sends a request for the first time, that
+/// index is smaller than that of the request's entry, whether the request is answered or not.
 pub fn loops_serve_as_one()
     ensures { LoopsServeAsOne }
 {}
 
-/// A member is asked, its record is kept in a crash before anything is sent, and its next life answers.
+/// A member is asked, its record is kept in a crash before anything is sent, and its next life answers; then it is asked again, and answers
+/// after the end of its link.
 pub fn a_worked_merge()
     ensures { IsWorked }
 {}

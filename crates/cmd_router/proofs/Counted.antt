@@ -30,6 +30,10 @@ few-repeats : (tick : Bool) (old new requests long : ℕ) → (tick ≡ false �
 few-repeats true old new requests long other same repeats few = omega (arith, same refl, repeats refl, few)
 few-repeats false old new requests long other same repeats few = omega (arith, other refl)
 
+one-sent : (tick : Bool) (long : ℕ) → (tick ≡ false → long ≤ 1) → long ≤ most_servers → long ≤ 1 + most_servers * cond tick 1 0
+one-sent true long one few = omega (arith, few)
+one-sent false long one few = omega (arith, one refl)
+
 pub counts-more : (first old new : PassState) (events : List Event) (event : Event) (sent sends : List Datagram)
     → CountsTurns first events sent old → CountsTurn old event sends new → CountsTurns first (events ++ event ∷ []) (sent ++ sends) new
 counts-more first old new events event sent sends before turn =
@@ -40,6 +44,8 @@ counts-more first old new events event sent sends before turn =
     let both : requests_among (sent ++ sends) ≡ requests_among sent + requests_among sends = sum_by-append (λ (d : Datagram). cond (is_request d.bytes) 1 0) sent sends in
     let accepted : new.made.accepted ≤ old.made.accepted + cond (asks event) 1 0 = grows-by old.made.accepted new.made.accepted (asks event) turn.one_accepted turn.asked in
     let answered : new.made.answered ≤ old.made.answered + cond (feeds_back event) 1 0 = grows-by old.made.answered new.made.answered (feeds_back event) turn.one_answered turn.told in
+    let joined : length (sent ++ sends) ≡ length sent + length sends = length-append sent sends in
+    let few : length sends ≤ 1 + most_servers * cond (is_tick event) 1 0 = one-sent (is_tick event) (length sends) turn.one turn.few in
     let least : new.made.forwarded ≤ old.made.forwarded + requests_among sends =
     at-most-sent (is_tick event) old.made.forwarded new.made.forwarded (requests_among sends) turn.forwarded turn.stays in
     let most : old.made.forwarded + requests_among sends ≤ new.made.forwarded + most_servers * cond (is_tick event) 1 0 =
@@ -51,4 +57,5 @@ counts-more first old new events event sent sends before turn =
       answered = omega (arith, before.answered, answered, fed);
       forwarded = omega (arith, before.forwarded, least, both);
       repeats = omega (arith, before.repeats, most, both, ticked);
+      few = omega (arith, before.few, few, joined, longer, ticked);
     }

@@ -8,6 +8,8 @@ pub mod Threads
 pub mod SeatLists
 pub mod Worked
 pub mod Together
+pub mod Loops
+pub mod Unrun
 pub mod Ready
 pub mod Sums
 pub mod Shares

@@ -26,7 +26,7 @@ gains-some None b x more gave e = absurd cc
 gains-some (Some y) None x more gave e = absurd gave
 gains-some (Some y) (Some z) x more gave e = let same : y ≡ x = cc in ap Some (gave ∙ ap (λ l. l ++ more) same)
 
-joins-some : {A : Type 0} (a b m : Option (List A)) (x more : List A) → Joins a b m → a ≡ Some x → m ≡ Some more → b ≡ Some (x ++ more)
+pub joins-some : {A : Type 0} (a b m : Option (List A)) (x more : List A) → Joins a b m → a ≡ Some x → m ≡ Some more → b ≡ Some (x ++ more)
 joins-some a b None x more joined e f = absurd cc
 joins-some a b (Some m) x more joined e f = let same : m ≡ more = cc in gains-some a b x more (subst (Gains a b) same joined) e
 

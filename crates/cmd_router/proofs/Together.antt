@@ -23,7 +23,8 @@ use Rattle.cmd_router.specs.Counted.{CountsTurns}
 use Rattle.cmd_router.specs.Desks.{AllCount, AreTwins, ComeBack, WorkAtDesk}
 use Rattle.cmd_router.specs.Routes.{IsWholeRun}
 use Rattle.cmd_router.specs.Seats.{RanSeat, RunAll, RunUntimed}
-use Rattle.cmd_router.specs.Works.{IsWorkersEnd, EndsWell, TakeLanes, Work, all_sent, end_of}
+use Rattle.cmd_router.specs.Workers.{IsWorkersEnd, end_of}
+use Rattle.cmd_router.specs.Works.{EndsWell, TakeLanes, Work, all_sent}
 use Rattle.cmd_router.proofs.Statuses.{all-whole, ends-as, ends-known}
 use Rattle.cmd_router.proofs.Threads.{HaveLanes, HaveSent, back-lanes, back-left, back-me, back-sent, gains-some, kept-some, lane-taken, to-gains, to-lanes, twins-lanes, twins-left, twins-me, twins-unsent}
 use Rattle.cmd_router.proofs.Worked.{Worked, worked}
@@ -58,7 +59,7 @@ module _ {X P : Type 0} (pass : P → PassState) (party : X → P) (told : X →
   abbrev ended_in : Work → Status
   ended_in w = w.ended
 
-  tail-runs : (x y : X) (xs ys : List X) → RunUntimed Ran (x ∷ xs) (y ∷ ys) → RunUntimed Ran xs ys
+  pub tail-runs : (x y : X) (xs ys : List X) → RunUntimed Ran (x ∷ xs) (y ∷ ys) → RunUntimed Ran xs ys
   tail-runs x y xs ys run = record { each = λ i d lt. run.each (suc i) d (omega (arith, lt)); as_many = omega (arith, run.as_many) }
 
   all-worked : (pace : Pace) (xs ys : List X) → RunUntimed Ran xs ys → All (λ (x : X). paced x ≡ pace) xs → All IsWholeRun (map ended ys)

@@ -19,7 +19,8 @@ abbrev pub ticks_among : List Event → ℕ
 ticks_among events = count_by is_tick events
 
 -- over these events a pass counted a turn each, accepted no more than were asked, found no more answered than feedback came, and
--- forwarded as many requests as were sent, but for those that were sent again at ticks
+-- forwarded as many requests as were sent, but for those that were sent again at ticks; one datagram at most was sent at each event,
+-- and one more at most for each server at a tick
 pub record CountsTurns (p : PassState) (events : List Event) (sends : List Datagram) (p' : PassState) : Type 0 where
   pub turns : p'.made.turns ≡ p.made.turns + length events
   pub slots : p'.slots ≡ p.slots
@@ -27,6 +28,7 @@ pub record CountsTurns (p : PassState) (events : List Event) (sends : List Datag
   pub answered : p'.made.answered ≤ p.made.answered + feedback_among events
   pub forwarded : p'.made.forwarded ≤ p.made.forwarded + requests_among sends
   pub repeats : p.made.forwarded + requests_among sends ≤ p'.made.forwarded + most_servers * ticks_among events
+  pub few : length sends ≤ length events + most_servers * ticks_among events
 
 -- over no events nothing
 pub counts_none : (p : PassState) → CountsTurns p [] [] p
@@ -37,4 +39,5 @@ counts_none p = record {
   answered = omega arith;
   forwarded = omega arith;
   repeats = omega arith;
+  few = omega arith;
 }

@@ -4,6 +4,8 @@ pub mod Twins
 pub mod Routes
 pub mod Counted
 pub mod Seats
+pub mod Workers
 pub mod Works
 pub mod Desks
+pub mod Loops
 pub mod Shares

@@ -1,5 +1,5 @@
 -- A router's run with several workers: what they did together, what was printed, and how it ended.
-use Rattle.std.specs.Prelude.{ℕ, List}
+use Rattle.std.specs.Prelude.{◌≡◌, ◌⊎◌, ℕ, List}
 use Rattle.std.specs.Io.KnownBytes.{Appends, Keeps}
 use Rattle.r2_link.specs.Streams.{AppendsPrefix}
 use Rattle.r2_desk.specs.declared.totals.Totals.{Totals}
@@ -7,6 +7,7 @@ use Rattle.cmd_status.specs.declared.status.Status.{Status}
 use Rattle.cmd_status.specs.declared.status.Status.TheVariants.{ClockFault, Done, LinkFault, Memory, SinkFault, TurnsSpent}
 use Rattle.cmd_loop.specs.declared.pace.Pace.{Pace}
 use Rattle.cmd_loop.specs.Ends.{Ends}
+use Rattle.cmd_router.specs.Loops.{NoneRan, WorkersRan}
 use Rattle.cmd_router.specs.Routes.{IsWholeRun}
 use Rattle.cmd_router.specs.Totals.{totals_line}
 use Rattle.cmd_router.specs.Works.{SharesRouter}
@@ -29,12 +30,23 @@ pub record SharesAndStops (slots workers : ℕ) (pace : Pace) (old new : Ends) :
   pub shares : SharesRouter slots workers pace old new totals ended
   pub printed : AppendsPrefix old.written new.written (line_of totals)
 
--- by how the run ended: where a worker met a fault or found no memory, or there was none for a twin or a router, nothing is printed
+-- the workers ran, and the run ended as the lowest of them that met a fault or found no memory; nothing was printed
+pub record SharesAndFails (workers : ℕ) (pace : Pace) (old new : Ends) (ended : Status) : Type 0 where
+  pub ran : WorkersRan workers pace old.link new.link old.clock new.clock ended
+  pub printed : Keeps old.written new.written
+
+-- there was no twin for some worker, or no memory for a twin or a router: none was run, and nothing was printed
+pub record SharesNothing (workers : ℕ) (old new : Ends) : Type 0 where
+  pub link : NoneRan workers old.link new.link
+  pub clock : new.clock ≡ old.clock
+  pub printed : Keeps old.written new.written
+
+-- by how the run ended
 abbrev pub Shares : ℕ → ℕ → Pace → Ends → Ends → Status → Type 0
 Shares slots workers pace old new Done = SharesAndTells slots workers pace old new Done
 Shares slots workers pace old new TurnsSpent = SharesAndTells slots workers pace old new TurnsSpent
 Shares slots workers pace old new SinkFault = SharesAndStops slots workers pace old new
-Shares slots workers pace old new LinkFault = Keeps old.written new.written
-Shares slots workers pace old new ClockFault = Keeps old.written new.written
-Shares slots workers pace old new Memory = Keeps old.written new.written
+Shares slots workers pace old new LinkFault = SharesNothing workers old new ⊎ SharesAndFails workers pace old new LinkFault
+Shares slots workers pace old new ClockFault = SharesAndFails workers pace old new ClockFault
+Shares slots workers pace old new Memory = SharesNothing workers old new ⊎ SharesAndFails workers pace old new Memory
 Shares slots workers pace old new _ = ⊥

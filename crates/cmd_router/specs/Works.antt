@@ -10,11 +10,12 @@ use Rattle.r2_jbsq.specs.Limits.{most_servers}
 use Rattle.r2_jbsq.specs.Packets.{requests_among}
 use Rattle.r2_desk.specs.declared.totals.Totals.{Totals}
 use Rattle.cmd_status.specs.declared.status.Status.{Status}
-use Rattle.cmd_status.specs.declared.status.Status.TheVariants.{ClockFault, Done, LinkFault, Memory, TurnsSpent}
+use Rattle.cmd_status.specs.declared.status.Status.TheVariants.{Done, TurnsSpent}
 use Rattle.cmd_loop.specs.declared.pace.Pace.{Pace}
 use Rattle.cmd_loop.specs.Ends.{Ends}
 use Rattle.cmd_loop.specs.Events.{event_of, events}
 use Rattle.cmd_router.specs.Counted.{asked_among, feedback_among, ticks_among}
+use Rattle.cmd_router.specs.Workers.{end_of}
 
 -- what one worker received, the events whose turns it made, what it sent, and how it ended
 pub record Work : Type 0 where
@@ -28,27 +29,6 @@ abbrev pub EndsWell : ℕ → List Item → Status → Type 0
 EndsWell turns items Done = ⊤
 EndsWell turns items TurnsSpent = length items ≡ turns
 EndsWell turns items _ = ⊥
-
--- how workers that end so end together: as the first of them that met a fault or found no memory; where none did, by the last receive
--- where some worker made all of its receives, and else by the end
-abbrev pub spent_or : Status → Status
-spent_or Done = TurnsSpent
-spent_or status = status
-
-abbrev pub end_of : List Status → Status
-end_of [] = Done
-end_of (Done ∷ more) = end_of more
-end_of (TurnsSpent ∷ more) = spent_or (end_of more)
-end_of (fault ∷ more) = fault
-
--- how a worker may end, and so all of them together
-abbrev pub IsWorkersEnd : Status → Type 0
-IsWorkersEnd Done = ⊤
-IsWorkersEnd TurnsSpent = ⊤
-IsWorkersEnd LinkFault = ⊤
-IsWorkersEnd ClockFault = ⊤
-IsWorkersEnd Memory = ⊤
-IsWorkersEnd _ = ⊥
 
 -- all that was sent, worker by worker
 abbrev pub all_sent : List Work → List Datagram

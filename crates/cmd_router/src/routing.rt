@@ -32,9 +32,10 @@ use std::thread::Threads;
 /// Runs a new router at `me` before 1 to 64 servers, of which each may hold `n` requests, 1 to 16, with 1 to 16 workers, each on a twin
 /// of its own of the link, until all twins end, something fails, or each worker made so many receives.
 ///
-/// The twins are made first, in order; where one is refused no worker starts. The first worker alone has the clock and the ticks. A
-/// worker that meets a fault ends, and the others go on. The run ends as the first worker that met a fault or found no memory; where none
-/// did, by the last receive if some worker made all of its receives, and else by the end.
+/// The twins are made first, in order; where one is refused no worker starts, and nothing is received or sent. The first worker alone
+/// has the clock and the ticks. A worker that meets a fault ends, and the others go on. The run ends as the lowest worker that met a
+/// fault or found no memory, by their order and not by the moment; where none did, by the last receive if some worker made all of its
+/// receives, and else by the end.
 ///
 /// Where no worker met a fault or found no memory, one line is printed: `turns A accepted B forwarded C answered D`, with the number
 /// of datagrams, quiets and ticks, and of the requests that were accepted, forwarded and answered.
@@ -59,7 +60,8 @@ pub fn serve_router<R: Threads + Wait + Sync, K: Sink, L: Twin + Send, C: Clock 
     requires tick { 1 ≤ pace.tick_ms }
     requires turns { pace.turns ≤ most_turns }
 
-    // What was received and sent, and what was printed: exactly, with one worker.
+    // What was received and sent, and what was printed: exactly, with one worker. With more, what they did together; where one of them
+    // failed, by each one's loop, and where none was run, nothing.
     ensures ran { workers ≡ 1 → (o : Ends) → Routes (record { me = me; servers = servers; n = n }) pace
         (record o { written = K.written sink.old; link = L.told link.old; clock = C.left clock.old })
         (record o { written = K.written sink.new; link = L.told link.new; clock = C.left clock.new }) result }

@@ -1,8 +1,8 @@
-ghost use Rattle.std.specs.Prelude.{◌≡◌, ◌≤◌, IfOk, MatchResult, ⊤};
+ghost use Rattle.std.specs.Prelude.{◌≡◌, ◌≤◌, [], IfOk, MatchResult, OnErr, ⊤};
 ghost use Rattle.r2_base.specs.Limits.{most_turns};
 ghost use Rattle.r2_link.specs.Faults.{Rose};
 ghost use Rattle.r2_link.specs.Lanes.{IsFault};
-ghost use Rattle.r2_link.specs.Links.{Splits};
+ghost use Rattle.r2_link.specs.Links.{LinkPasses, Splits};
 ghost use Rattle.cmd_router.specs.Seats.{IsReady, RanSeat};
 
 use crate::workers::Worker;
@@ -59,6 +59,7 @@ pub(crate) fn take_seat<P: PlainParty, L: Twin>(
     ensures pace { IfOk result (λ s. s.pace ≡ pace) }
     ensures split { IfOk result (λ s. Splits (L.told link.old) (L.told link.new) (L.told s.link)) }
     ensures unfailed { IfOk result (λ s. L.faults s.link ≡ 0) }
+    ensures refused { OnErr result (LinkPasses (L.told link.old) (L.told link.new) [] []) }
     ensures steady { L.faults link.old ≤ L.faults link.new }
     ensures cause { MatchResult result (λ _. ⊤) (λ e. IsFault e → Rose (L.faults link.old) (L.faults link.new)) }
 {

@@ -5,6 +5,7 @@ ghost use Rattle.std.specs.List.{All};
 ghost use Rattle.r2_link.specs.Faults.{Rose};
 ghost use Rattle.r2_link.specs.Lanes.{IsFault};
 ghost use Rattle.cmd_router.specs.Desks.{AreTwins, ComeBack};
+ghost use Rattle.cmd_router.specs.Loops.{NoneRan};
 
 use crate::desk_party::DeskParty;
 use crate::seat::{Seat, take_seat};
@@ -40,6 +41,7 @@ pub(crate) fn seat_all<
     ensures paced { IfOk result (λ seats. All (λ s. s.pace ≡ pace) seats.items) }
     ensures twins { IfOk result (λ seats. AreTwins (L.told link.old) (L.told link.new) (map (λ s. L.told s.link) seats.items)) }
     ensures unfailed { IfOk result (λ seats. All (λ s. L.faults s.link ≡ 0) seats.items) }
+    ensures none { OnErr result (NoneRan (length passes.items) (L.told link.old) (L.told link.new)) }
     ensures steady { L.faults link.old ≤ L.faults link.new }
     ensures cause { MatchResult result (λ _. ⊤) (λ e. IsFault e → Rose (L.faults link.old) (L.faults link.new)) }
 {
@@ -64,6 +66,7 @@ pub(crate) fn seat_all<
 
 /// Takes the twins of these seats back, in their order.
 fn take_back<P: PlainParty, L: Twin>(link: &mut L, seats: Vec<Seat<P, L>>)
+    ensures back { ComeBack (L.told link.old) (L.told link.new) (map (λ s. L.told s.link) seats.items) }
     ensures steady { L.faults link.old ≤ L.faults link.new }
 {
     let mut left = VecDeque::from_vec(seats);

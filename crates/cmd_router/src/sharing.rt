@@ -1,7 +1,7 @@
 //! Several workers over one router.
 
-ghost use Rattle.std.specs.Prelude.{◌≡◌, ◌≤◌, List, [], IfOk, MatchResult, length, map, vec_capacity, vec_len};
-ghost use Rattle.std.specs.List.{All};
+ghost use Rattle.std.specs.Prelude.{◌≡◌, ◌≤◌, List, [], IfOk, MatchResult, OnErr, length, map, vec_capacity, vec_len};
+ghost use Rattle.std.specs.List.{All, find, list_any};
 ghost use Rattle.r2_base.specs.Limits.{most_turns};
 ghost use Rattle.r2_link.specs.Faults.{NoneFalls, Rose, calm};
 ghost use Rattle.r2_link.specs.Lanes.{IsFault};
@@ -14,8 +14,10 @@ ghost use Rattle.cmd_status.specs.Causes.{IsCaused};
 ghost use Rattle.cmd_loop.specs.Ends.{Ends};
 ghost use Rattle.cmd_loop.specs.Loop.{IsServed};
 ghost use Rattle.cmd_router.specs.Desks.{WorkAtDesk};
+ghost use Rattle.cmd_router.specs.Loops.{NoneRan, WorkersRan};
 ghost use Rattle.cmd_router.specs.Routes.{IsWholeRun};
-ghost use Rattle.cmd_router.specs.Works.{IsWorkersEnd, SharesRouter, end_of, spent_or};
+ghost use Rattle.cmd_router.specs.Workers.{IsWorkersEnd, end_of, is_fault, is_spent};
+ghost use Rattle.cmd_router.specs.Works.{SharesRouter};
 
 use crate::desk_party::DeskParty;
 use crate::seat::Seat;
@@ -78,6 +80,11 @@ pub(crate) fn share_router<
     ensures shared { IfOk result (λ s. IsWholeRun s.ended → (o : Ends) → SharesRouter (slots_of router.setup) workers pace
         (record o { link = L.told link.old; clock = C.left clock.old }) (record o { link = L.told link.new; clock = C.left clock.new }) s.totals s.ended) }
 
+    // However they ended; and where none was run.
+    ensures ran { IfOk result (λ s. WorkersRan workers pace (L.told link.old) (L.told link.new) (C.left clock.old) (C.left clock.new) s.ended) }
+    ensures none { OnErr result (NoneRan workers (L.told link.old) (L.told link.new)) }
+    ensures still { OnErr result (C.left clock.new ≡ C.left clock.old) }
+
     ensures known { IfOk result (λ s. IsWorkersEnd s.ended) }
     ensures served { IfOk result (λ s. (Rose (L.faults link.old) (L.faults link.new) → ⊥) → (Rose (C.faults clock.old) (C.faults clock.new) → ⊥) → IsServed s.ended) }
     ensures caused { MatchResult result
@@ -139,6 +146,9 @@ fn work_at_desk<
     requires most { pace.turns ≤ most_turns }
     ensures worked { IfOk result (λ w. IsWholeRun w.ended → WorkAtDesk pace passes.items w.passes.items (L.told link.old) (L.told link.new) (C.left clock.old) (C.left clock.new) w.ended) }
     ensures as_many { IfOk result (λ w. length w.passes.items ≡ length passes.items) }
+    ensures ran { IfOk result (λ w. WorkersRan (length passes.items) pace (L.told link.old) (L.told link.new) (C.left clock.old) (C.left clock.new) w.ended) }
+    ensures none { OnErr result (NoneRan (length passes.items) (L.told link.old) (L.told link.new)) }
+    ensures still { OnErr result (C.left clock.new ≡ C.left clock.old) }
     ensures known { IfOk result (λ w. IsWorkersEnd w.ended) }
     ensures served { IfOk result (λ w. (Rose (L.faults link.old) (L.faults link.new) → ⊥) → (Rose (C.faults clock.old) (C.faults clock.new) → ⊥) → IsServed w.ended) }
     ensures caused { MatchResult result
@@ -179,22 +189,39 @@ fn totals_of<T: Ledger, S: Ledger, A: Ledger, F: Ledger, W: Ledger>(
 fn end_of<P: PlainParty, L: Link>(seats: &[Seat<P, L>]) -> Status
     ensures { result ≡ end_of (map (λ s. s.ended) seats.now) }
 {
-    let [seat, others @ ..] = seats else {
-        return Status::Done;
-    };
-    match seat.ended {
-        Status::Done => end_of(others),
-        Status::TurnsSpent => spent_or(end_of(others)),
-        fault => fault,
+    if let Some(fault) = first_fault(seats) {
+        return fault;
+    }
+    if some_spent(seats) {
+        Status::TurnsSpent
+    } else {
+        Status::Done
     }
 }
 
-/// How workers end together of which one made all of its receives, and the others end so.
-fn spent_or(ended: Status) -> Status
-    ensures { result ≡ spent_or ended }
+/// How the lowest of these workers ended that met a fault or found no memory.
+fn first_fault<P: PlainParty, L: Link>(seats: &[Seat<P, L>]) -> Option<Status>
+    ensures { result ≡ find is_fault (map (λ s. s.ended) seats.now) }
 {
-    match ended {
-        Status::Done => Status::TurnsSpent,
-        other => other,
+    let [seat, others @ ..] = seats else {
+        return None;
+    };
+    match seat.ended {
+        Status::Done => first_fault(others),
+        Status::TurnsSpent => first_fault(others),
+        fault => Some(fault),
+    }
+}
+
+/// Whether one of these workers made all of its receives.
+fn some_spent<P: PlainParty, L: Link>(seats: &[Seat<P, L>]) -> bool
+    ensures { result ≡ list_any is_spent (map (λ s. s.ended) seats.now) }
+{
+    let [seat, others @ ..] = seats else {
+        return false;
+    };
+    match seat.ended {
+        Status::TurnsSpent => true,
+        _ => some_spent(others),
     }
 }

@@ -19,11 +19,11 @@ use Rattle.hc_run.specs.Group.{Group, Receiver, Member, Aggregator, Outside, rec
 use Rattle.hc_run.specs.State.{Replica, beginning as group_beginning, started, stopped}
 use Rattle.hc_world.specs.declared.event.WorldEvent.TheVariants.{ClientSend, Crash, Deliver, Restart, Tick}
 use Rattle.hc_world.specs.Addresses.{group_at, member_address}
-use Rattle.hc_world.specs.Events.{MayCome, MaySend, events_of}
+use Rattle.hc_world.specs.Events.{MayCome, MaySend}
 use Rattle.hc_world.specs.Notes.{capped}
 use Rattle.hc_world.specs.Seen.{Seen, seen}
-use Rattle.hc_run.proofs.WholeRuns.{groups_serve_as_one}
 use Rattle.hc_world.proofs.Begun.{group-there, shows-none}
+use Rattle.hc_world.proofs.OneThread.{groups_serve_throughout}
 use Rattle.cmd_simulate.specs.declared.plan.Plan.{Plan}
 use Rattle.cmd_simulate.specs.Drawn.{drawn}
 use Rattle.cmd_simulate.specs.declared.questions.Command.{Command}
@@ -344,7 +344,7 @@ goes-rounds plan (suc count) planned =
 pub simulations-serve : SimulationsServeAsOne
 unfolding generated
 simulations-serve plan planned =
-    groups_serve_as_one (group_of plan) (events_of 0 (generated plan)) (group-there plan.members plan.bounds plan.aggregator planned.some planned.few planned.bounds planned.each)
+    groups_serve_throughout (group_of plan) (generated plan) (group-there plan.members plan.bounds plan.aggregator planned.some planned.few planned.bounds planned.each)
     (goes-rounds plan (plan.requests + more_rounds) planned).shows.possible
 
 -- numbers that are appended one after another

@@ -7,7 +7,7 @@ pub fn simulations_are_runs()
     ensures { SimulationsAreRuns }
 {}
 
-/// So the group of each simulation serves as one thread.
+/// So the group of each simulation serves as one thread, at each moment of it.
 pub fn simulations_serve_as_one()
     ensures { SimulationsServeAsOne }
 {}

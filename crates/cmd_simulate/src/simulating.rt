@@ -3,8 +3,7 @@
 ghost use Rattle.std.specs.Prelude.{◌≡◌, IfOk};
 ghost use Rattle.r2_link.specs.Faults.{NoneFalls, Rose, calm};
 ghost use Rattle.cmd_status.specs.Causes.{IsCaused};
-ghost use Rattle.hc_run.specs.AsOne.{ServesAsOne};
-ghost use Rattle.hc_world.specs.Runs.{run_of};
+ghost use Rattle.hc_world.specs.Runs.{ServesThroughout};
 ghost use Rattle.cmd_simulate.specs.Courses.{Tells};
 ghost use Rattle.cmd_simulate.specs.Generator.{beginning, generated, group_of};
 ghost use Rattle.cmd_simulate.specs.Plans.{IsPlan};
@@ -72,8 +71,8 @@ pub fn simulate<K: Sink>(alloc: Global, plan: Plan, sink: &mut K) -> Status
     // What is written is counted in a run of the plan's group.
     ensures ran { Simulates plan (K.written sink.old) (K.written sink.new) result }
 
-    // In that run the group serves as one thread.
-    ensures serves { ServesAsOne (group_of plan) (run_of (group_of plan) (generated plan)) }
+    // At each moment of that run the group serves as one thread.
+    ensures serves { ServesThroughout (group_of plan) (generated plan) }
 
     // Where the sink doesn't fail, all is written, or memory runs out.
     ensures complete { (Rose (K.faults sink.old) (K.faults sink.new) → ⊥) → IsSimulationEnd result }

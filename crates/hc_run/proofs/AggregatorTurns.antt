@@ -1,4 +1,4 @@
--- The aggregator's turn at a datagram that was sent to it.
+-- The aggregator's turn at any event, and in a group at a datagram that was sent to it.
 use Rattle.std.proofs.Common.{◌≡◌, ℕ, zero, suc, ◌+◌, ◌<◌, ◌≤◌, List, [], ◌∷◌, drop, length, map, Option, None, Some, refl, sym, ap, subst, ◌∙◌, arith, inl, inr}
 use Rattle.std.specs.Prelude.{All, slice_get}
 use Rattle.std.specs.List.{remove}
@@ -6,6 +6,7 @@ use Rattle.std.proofs.lemmas.Option.{get_or_from_slice_get, same_Some, slice_get
 use Rattle.std.proofs.lemmas.List.Elements.{All-cons, All-get_or, All-head, All-nil, All-tail}
 use Rattle.r2_base.specs.declared.addr.Addr.{Addr}
 use Rattle.r2_base.specs.declared.datagram.Datagram.{Datagram}
+use Rattle.r2_base.specs.declared.event.Event.{Event}
 use Rattle.r2_base.specs.declared.event.Event.TheVariants as event
 use Rattle.r2_header.specs.Header.{spelling}
 use Rattle.r2_frag.specs.declared.class.Class.{Class}
@@ -24,7 +25,7 @@ use Rattle.hc_member.specs.declared.setup.Setup.{Setup}
 use Rattle.hc_member.specs.Sending.{recover_spec}
 use Rattle.hc_aggregate.specs.Sound.{IsTally}
 use Rattle.hc_aggregate.specs.Tally.{Tally, found, in_term, with_reached}
-use Rattle.hc_aggregate.specs.Turn.{Outcome, Telling, datagram_of, hear_ack, hear_order, reacted, receive, tell_each}
+use Rattle.hc_aggregate.specs.Turn.{AggregatorState, Outcome, Telling, datagram_of, hear_ack, hear_order, nothing, reacted, receive, sent, tell_each, with_tally}
 use Rattle.hc_aggregate.proofs.Cases.{of-turn}
 use Rattle.hc_aggregate.proofs.Found.{IsFound, found-within}
 use Rattle.hc_aggregate.proofs.Tallies.{tally_with_found, tally_with_reached}
@@ -38,8 +39,9 @@ use Rattle.hc_rules.proofs.RuleLists.{rules_keep}
 use Rattle.hc_run.specs.Group.{Aggregator, Group, IsGroup, Receiver, setup_of}
 use Rattle.hc_run.specs.State.{GroupState}
 use Rattle.hc_run.specs.Events.{Deliver, WasSentTo}
-use Rattle.hc_run.specs.Aggregating.{IsAggregatorSteps, IsTold, IsToldTo, ShowsTally}
-use Rattle.hc_run.specs.Backed.{IsBackedDatagram, IsRecoveryPart, IsReplyPart, IsRequestPart}
+use Rattle.hc_run.specs.Aggregating.{IsAggregatorSteps, IsTold, IsToldTo}
+use Rattle.hc_run.specs.AggregatorTurns.{AggregatorStands, AggregatorTurnsAreRules, IsAggregatorTurn}
+use Rattle.hc_run.specs.Backed.{IsBackedDatagram, IsRecoveryPart, IsMadeReplyPart, IsRequestPart}
 use Rattle.hc_run.specs.Held.{IsAsked}
 use Rattle.hc_run.specs.Shows.{Shows}
 use Rattle.hc_run.specs.StepLaws.{IsStepRules, LeadsTo}
@@ -98,7 +100,7 @@ module _ (s : Setup) (w : ProtocolState) (kept : Kept w) (asked : All IsAsked w.
       (about-sendable s w distinct asked [] (All-nil _) d.from d.to is.rid is.message is.valid is.about)
       (about-headers s w distinct asked [] (All-nil _) d.from d.to is.rid is.message is.about) is.part
 
-  reply-silent : (d : Datagram) → IsReplyPart w d → message_in d.bytes ≡ None
+  reply-silent : (d : Datagram) → IsMadeReplyPart w d → message_in d.bytes ≡ None
   unfolding reply_parts
   reply-silent d is =
       let r = is.reply in
@@ -180,40 +182,95 @@ reacts : (members : List Addr) (t : Tally) (d : Datagram) → reacted members t 
 unfolding reacted
 reacts members t d = refl
 
-pub aggregates-becomes : (g : Group) (w : ProtocolState) (s : GroupState) (d : Datagram) → IsGroup g → Shows g w s → IsBackedDatagram g.members w d
-    → LeadsTo g w (aggregates g d.to (event.Datagram d) s)
-aggregates-becomes g w s d is shows backed =
-    let setup = setup_of g 0 in
-    let t = s.tally in
-    let o = reacted g.members t (event.Datagram d) in
-    let group = shows.group in
-    let tally = shows.tally in
-    let asked : All IsAsked w.table = subst (λ (l : List Request). All IsAsked l) (sym shows.table) shows.asked in
-    let told = told-of setup w shows.kept asked d backed in
-    let well = goes-well g.members t d (λ m same. valid-of g.members w d.to (message_in d.bytes) m told same) tally in
-    let shown : ShowsTally g.members w t = record { some = is.some; size = group.size; each = tally.each; tied = shows.aggregator } in
-    let did : IsAggregatorSteps g.members w o =
-    subst (λ (y : Outcome). IsAggregatorSteps g.members w y) (sym (reacts g.members t d)) (aggregating_rules g.members w t d.from d.to (message_in d.bytes) shows.kept shown told) in
+-- a setup of a member of these
+abbrev setup_with : List Addr → Setup
+setup_with members = record { members = members; me = 0; aggregator = None; bounds = []; election = 1 }
+
+-- a turn at a datagram that was sent
+datagram-turn : (w : ProtocolState) (a : AggregatorState) (d : Datagram) → AggregatorStands w a → IsBackedDatagram a.members w d → IsAggregatorTurn w a (event.Datagram d)
+datagram-turn w a d stands backed =
+    let setup = setup_with a.members in
+    let t = a.tally in
+    let o = reacted a.members t (event.Datagram d) in
+    let told = told-of setup w stands.kept stands.asked d backed in
+    let well = goes-well a.members t d (λ m same. valid-of a.members w d.to (message_in d.bytes) m told same) stands.sound in
+    let did : IsAggregatorSteps a.members w o =
+    subst (λ (y : Outcome). IsAggregatorSteps a.members w y) (sym (reacts a.members t d))
+    (aggregating_rules a.members w t d.from d.to (message_in d.bytes) stands.kept stands.shown told) in
     let are = did.are in
     let rules = did.rules in
     let x = after_rules w rules in
-    let both = aggregators_spare setup w rules shows.kept are.own are.allowed in
-    let kept = rules_keep w rules shows.kept are.allowed in
-    let table : x.table ≡ s.table = both.1 ∙ shows.table in
-    let after = are.shown in
-    leads-stays g w s (aggregates g d.to (event.Datagram d) s) (map (datagram_of d.to) o.tells) rules shows
+    let both = aggregators_spare setup w rules stands.kept are.own are.allowed in
+    let kept = rules_keep w rules stands.kept are.allowed in
+    let asked = subst (λ (l : List Request). All IsAsked l) (sym both.1) stands.asked in
+    record {
+      rules = rules;
+      are =
+          record {
+            own = are.own;
+            allowed = are.allowed;
+            stands = record { kept = kept; asked = asked; shown = are.shown; sound = well.0 };
+            backed = tells-backed a.members x a.me o.tells kept asked well.1 are.backed;
+            passed = are.passed;
+            reports = are.reports;
+          };
+    }
+
+-- nothing comes
+silent-turn : (w : ProtocolState) (a : AggregatorState) (e : Event) → AggregatorStands w a → reacted a.members a.tally e ≡ nothing a.tally → IsAggregatorTurn w a e
+silent-turn w a e stands none =
+    record {
+      rules = [];
+      are =
+          record {
+            own = tt;
+            allowed = tt;
+            stands = subst (λ (o : Outcome). AggregatorStands w (with_tally a o.tally)) (sym none) stands;
+            backed = subst (λ (o : Outcome). All (IsBackedDatagram a.members w) (map (datagram_of a.me) o.tells)) (sym none) (All-nil (IsBackedDatagram a.members w));
+            passed = refl;
+            reports = refl;
+          };
+    }
+
+pub aggregator_turns : AggregatorTurnsAreRules
+unfolding reacted
+aggregator_turns w a (event.Datagram d) stands came = datagram-turn w a d stands came
+aggregator_turns w a event.Tick stands came = silent-turn w a event.Tick stands refl
+aggregator_turns w a event.Quiet stands came = silent-turn w a event.Quiet stands refl
+
+-- Groups --
+
+pub aggregates-becomes : (g : Group) (w : ProtocolState) (s : GroupState) (d : Datagram) → IsGroup g → Shows g w s → IsBackedDatagram g.members w d
+    → LeadsTo g w (aggregates g d.to (event.Datagram d) s)
+aggregates-becomes g w s d is shows backed =
+    let a : AggregatorState = record { me = d.to; members = g.members; tally = s.tally } in
+    let group = shows.group in
+    let tally = shows.tally in
+    let turn = aggregator_turns w a (event.Datagram d)
+    (record {
+      kept = shows.kept;
+      asked = subst (λ (l : List Request). All IsAsked l) (sym shows.table) shows.asked;
+      shown = record { some = is.some; size = group.size; each = tally.each; tied = shows.aggregator };
+      sound = tally;
+    })
+    backed in
+    let are = turn.are in
+    let both = aggregators_spare (setup_of g 0) w turn.rules shows.kept are.own are.allowed in
+    let after = are.stands in
+    let shown = after.shown in
+    leads-stays g w s (aggregates g d.to (event.Datagram d) s) (sent a (event.Datagram d)) turn.rules shows
     (record {
       allowed = are.allowed;
       spared = both.0;
       replicas = refl;
-      aggregator = after.tied;
-      tally = well.0;
-      table = table;
+      aggregator = shown.tied;
+      tally = after.sound;
+      table = both.1 ∙ shows.table;
       asked = shows.asked;
       passed = are.passed ∙ shows.passed;
       reports = are.reports ∙ shows.reports;
       replied = refl;
-      sent = tells-backed g.members x d.to o.tells kept (subst (λ (l : List Request). All IsAsked l) (sym table) shows.asked) well.1 are.backed;
+      sent = are.backed;
       datagrams = refl;
     })
 

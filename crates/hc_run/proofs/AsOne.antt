@@ -1,27 +1,29 @@
 -- A group that runs serves as one thread.
-use Rattle.std.proofs.Common.{◌≡◌, ℕ, zero, suc, ◌-◌, ◌<◌, ◌≤◌, List, length, take, get_or, Some, refl, sym, ap, subst, ◌∙◌, arith}
+use Rattle.std.proofs.Common.{◌≡◌, ℕ, zero, suc, ◌-◌, ◌<◌, ◌≤◌, ◌⊎◌, inl, inr, true, List, [], length, take, get_or, Some, refl, sym, ap, subst, ◌∙◌, arith}
 use Rattle.std.specs.Prelude.{All}
 use Rattle.std.proofs.lemmas.List.{ext_get_or, get_or-take, length-take-le}
 use Rattle.std.proofs.lemmas.List.Elements.{All-get_or}
 use Rattle.r2_base.specs.declared.entry.Entry.{Entry}
+use Rattle.r2_base.specs.Entry.{is_request}
 use Rattle.hc_log.specs.declared.stored.Stored.{Stored}
 use Rattle.hc_log.specs.Log.{blank_of, metas_of, stored_at}
 use Rattle.hc_store.specs.Replies.{Operation, reply_at}
 use Rattle.hc_service.specs.Entries.{IsReplayed}
 use Rattle.hc_member.specs.Member.{Member}
-use Rattle.hc_rules.specs.Agreed.{agreed}
+use Rattle.hc_rules.specs.Agreed.{IsCommittedFront, agreed}
 use Rattle.hc_rules.specs.Laws.{AreGiven}
-use Rattle.hc_rules.specs.Log.{In, entry_at}
+use Rattle.hc_rules.specs.Log.{In, Share, entry_at}
 use Rattle.hc_rules.specs.Message.{Passed as WorldPassed, Reply, Request}
 use Rattle.hc_rules.specs.Protocol.{Leader, ProtocolState, unreported}
-use Rattle.hc_rules.specs.Requests.{entry_body, operations as world_operations}
+use Rattle.hc_rules.specs.Requests.{At, entry_body, operations as world_operations}
 use Rattle.hc_rules.proofs.Agreement.{agreed_is}
 use Rattle.hc_rules.proofs.Answers.{answer_of}
 use Rattle.hc_rules.proofs.Commits.{entry_shared}
 use Rattle.hc_rules.proofs.Replied.{reply_shared}
+use Rattle.hc_rules.proofs.Shares.{share_take}
 use Rattle.hc_run.specs.Group.{Group, IsGroup}
 use Rattle.hc_run.specs.State.{GroupState, Passed, member_at}
-use Rattle.hc_run.specs.AsOne.{AreInOrder, IsBounded, IsReplyOf, Serves}
+use Rattle.hc_run.specs.AsOne.{AreAfterReplies, AreInOrder, IsBounded, IsReplyOf, Serves}
 use Rattle.hc_run.specs.Held.{IsWhole, owed}
 use Rattle.hc_run.specs.OneList.{applied_list, greatest_passed}
 use Rattle.hc_run.specs.Shows.{Shows}
@@ -40,6 +42,14 @@ use Rattle.hc_run.proofs.WholeBodies.{AreWhole, log-whole}
 module _ (g : Group) (w : ProtocolState) (s : GroupState) (is : IsGroup g) (shows : Shows g w s) (whole : AreWhole s) (none : HasNoGaps w) where
   abbrev top : ℕ
   top = greatest_passed s.passed
+
+  -- an entry of the list is the agreed list's
+  same-entry : (index : ℕ) → 0 < index → index ≤ top → (stored_at (applied_list s) index).entry ≡ entry_at (agreed w) index
+  same-entry zero set low = absurd (omega (arith, set))
+  same-entry (suc k) set low =
+      let less : k < top = omega (arith, low) in
+      let e : suc k - 1 ≡ k = omega arith in
+      rw e (sym (entry-metas (applied_list s) k) ∙ list.agreed-entry g w s shows whole none k less)
 
   -- Replies --
 
@@ -65,7 +75,7 @@ module _ (g : Group) (w : ProtocolState) (s : GroupState) (is : IsGroup g) (show
       let within = reply-within were r there in
       let shared = list.shared g w s shows whole none in
       let distinct = subst IsDistinct shows.table requests.table_is_distinct in
-      let entry : (stored_at (applied_list s) r.index).entry ≡ entry_at (agreed w) r.index = same r.index right.first within in
+      let entry : (stored_at (applied_list s) r.index).entry ≡ entry_at (agreed w) r.index = same-entry r.index right.first within in
       let book : entry_at (agreed w) r.index ≡ entry_at (w.book right.term) r.index = entry_shared right.end r.index (agreed w) (w.book right.term) front right.low in
       record {
         first = right.first;
@@ -77,20 +87,42 @@ module _ (g : Group) (w : ProtocolState) (s : GroupState) (is : IsGroup g) (show
             ∙ reply_shared s.table (length (applied_list s)) (metas_of (applied_list s)) (agreed w) shared r.index (omega (arith, within, size))
             ∙ subst (λ (t : List Request). reply_at (world_operations t (agreed w)) r.index ≡ Some r.payload) shows.table answer.right;
       }
-    where
-      same : (index : ℕ) → 0 < index → index ≤ top → (stored_at (applied_list s) index).entry ≡ entry_at (agreed w) index
-      same zero set low = absurd (omega (arith, set))
-      same (suc k) set low =
-          let less : k < top = omega (arith, low) in
-          let e : suc k - 1 ≡ k = omega arith in
-          rw e (sym (entry-metas (applied_list s) k) ∙ list.agreed-entry g w s shows whole none k less)
 
-  pub in-order : AreInOrder s.table s.replied
-  in-order earlier later place q a b at named before =
+  -- Entries --
+
+  -- an entry of the list is one of a committed prefix of a term's book
+  entry-after : (list : List Entry) → (list ≡ []) ⊎ IsCommittedFront w list → (index place : ℕ) (r : Reply) (q : Request) → In r w.replied → At w.table place q → r.place ≤ place
+      → 0 < index → index ≤ length list → is_request (entry_at list index).kind ≡ true → (entry_at list index).rid ≡ q.rid → r.index < index
+  entry-after list (inl none) index place r q a at before first within asks named = absurd (omega (arith, first, within, ap (length {A = Entry}) none))
+  entry-after list (inr front) index place r q a at before first within asks named =
       let answered = shows.answered in
-      let right = answered.replies_are_right later (shows.replied later b) in
-      answered.later_requests_stand_behind earlier (shows.replied earlier a) right.term right.end later.index place q right.committed right.first right.low right.asks
-      (right.named ∙ named) (rw shows.table at) before
+      let committed = front.committed in
+      let there = committed.within in
+      let size : length list ≡ front.index = ap (length {A = Entry}) front.is ∙ length-take-le front.index (w.book front.term) there in
+      let shares : Share front.index list (w.book front.term) =
+      subst (λ (l : List Entry). Share front.index l (w.book front.term)) (sym front.is) (share_take front.index front.index (w.book front.term) (omega arith) there) in
+      let low : index ≤ front.index = omega (arith, within, size) in
+      let same = entry_shared front.index index list (w.book front.term) shares low in
+      answered.later_requests_stand_behind r a front.term front.index index place q committed first low
+      (sym (ap (λ (e : Entry). is_request e.kind) same) ∙ asks) (sym (ap (λ (e : Entry). e.rid) same) ∙ named) at before
+
+  pub after-replies : AreAfterReplies s.table (applied_list s) s.replied
+  after-replies r place index q a at before one =
+      let kept = shows.kept in
+      let size = list.size g w s shows whole none in
+      let most = list.top-within g w s shows whole none in
+      let within = one.within in
+      let low : index ≤ top = omega (arith, within, size) in
+      let entry = same-entry index one.first low in
+      entry-after (agreed w) (agreed_is w kept).is_one index place r q (shows.replied r a) (rw shows.table at) before one.first (omega (arith, low, most))
+      (sym (ap (λ (e : Entry). is_request e.kind) entry) ∙ one.asks) (sym (ap (λ (e : Entry). e.rid) entry) ∙ one.named)
+
+  -- a reply is at its request's entry
+  pub in-order : ((r : Reply) → In r s.replied → IsReplyOf (applied_list s) r) → AreInOrder s.table s.replied
+  in-order are earlier later place q a b at named before =
+      let is = are later b in
+      after-replies earlier place later.index q a at before
+      (record { first = is.first; within = is.within; asks = is.asks; named = is.named ∙ named })
 
   -- Services --
 

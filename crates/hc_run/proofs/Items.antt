@@ -1,6 +1,6 @@
 -- Items of lists.
-use Rattle.std.proofs.Common.{◌≡◌, List, [], ◌∷◌, map, refl, sym, ap, subst, inl, inr}
-use Rattle.std.specs.Prelude.{All}
+use Rattle.std.proofs.Common.{◌≡◌, List, [], ◌∷◌, ◌++◌, map, refl, sym, ap, subst, inl, inr}
+use Rattle.std.specs.Prelude.{◌⊎◌, All}
 use Rattle.std.proofs.lemmas.List.Elements.{All-cons, All-head, All-nil, All-tail}
 use Rattle.hc_rules.specs.Log.{In}
 
@@ -30,3 +30,22 @@ pub made-of : {A B : Type 0} (f : A → B) (y : B) (l : List A) → In y (map f 
 made-of f y [] there = absurd there
 made-of f y (x ∷ l) (inl same) = record { item = x; there = inl refl; made = same }
 made-of f y (x ∷ l) (inr later) = let one = made-of f y l later in record { item = one.item; there = inr one.there; made = one.made }
+
+-- an item of either part of a list is one of the list, and an item of the list is one of a part
+pub in-left : {A : Type 0} (x : A) (l more : List A) → In x l → In x (l ++ more)
+in-left x [] more there = absurd there
+in-left x (y ∷ l) more (inl same) = inl same
+in-left x (y ∷ l) more (inr later) = inr (in-left x l more later)
+
+pub in-right : {A : Type 0} (x : A) (l more : List A) → In x more → In x (l ++ more)
+in-right x [] more there = there
+in-right x (y ∷ l) more there = inr (in-right x l more there)
+
+pub in-parts : {A : Type 0} (x : A) (l more : List A) → In x (l ++ more) → In x l ⊎ In x more
+in-parts x [] more there = inr there
+in-parts x (y ∷ l) more (inl same) = inl (inl same)
+in-parts x (y ∷ l) more (inr later) =
+    elim (in-parts x l more later) [
+      | inl here ↦ inl (inr here)
+      | inr there ↦ inr there
+    ]

@@ -118,7 +118,7 @@ good-set g replicas v r are member good =
 
 module _ (g : Group) (is : IsGroup g) where
   -- a member that is up is one of the group
-  up-inside : (replicas : List Replica) (v : ℕ) (m : MemberState) → AreGood g replicas → (get_or replicas v (stopped [])).member ≡ Some m → v < length g.members
+  pub up-inside : (replicas : List Replica) (v : ℕ) (m : MemberState) → AreGood g replicas → (get_or replicas v (stopped [])).member ≡ Some m → v < length g.members
   up-inside replicas v m are up =
       elim (cases_lt v (length g.members)) [
         | inl inside ↦ inside
@@ -217,7 +217,7 @@ module _ (g : Group) (is : IsGroup g) where
   happens-good Forget s are may = are
   happens-good (End v times) s are may = goes-up v s (member_at s v) (ends g v times) are (λ m up. ends-good v times m s are up)
 
-  step-good : (s : GroupState) (e : GroupEvent) → AreGood g s.replicas → IsPossible g s e → AreGood g (step g s e).replicas
+  pub step-good : (s : GroupState) (e : GroupEvent) → AreGood g s.replicas → IsPossible g s e → AreGood g (step g s e).replicas
   unfolding step
   step-good s e are may = happens-good e s are may
 

@@ -45,5 +45,9 @@ pub mod OneList
 pub mod AllSteps
 pub mod ReplyFacts
 pub mod AsOne
+pub mod Following
 pub mod Growing
+pub mod Silent
+pub mod ReplyParts
 pub mod WholeRuns
+pub mod Staying

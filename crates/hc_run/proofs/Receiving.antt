@@ -54,7 +54,7 @@ use Rattle.hc_member.specs.Setup.{own_address}
 use Rattle.hc_rules.specs.Log.{In}
 use Rattle.hc_rules.specs.Message.{Request}
 use Rattle.hc_rules.specs.Protocol.{ProtocolState}
-use Rattle.hc_run.specs.Backed.{IsAbout, IsBackedDatagram, IsHeardOf, IsMessage, IsRecoveryPart, IsReplyPart, IsRequestPart, IsSentAs}
+use Rattle.hc_run.specs.Backed.{IsAbout, IsBackedDatagram, IsHeardOf, IsMessage, IsRecoveryPart, IsMadeReplyPart, IsRequestPart, IsSentAs}
 use Rattle.hc_run.specs.Held.{HasPartsBy, HasTablesParts, IsAsked}
 use Rattle.hc_run.specs.Receiving.{DatagramTurnsAreRules, MessageTurnsAreRules, RequestTurnsAreRules, TimedTurnsAreRules}
 use Rattle.hc_run.specs.Steps.{request_spec}
@@ -456,7 +456,7 @@ reply-received s w u all from r right fits n less =
     subst (λ (r : Result (Header × ℕ) HeaderFault). IsReceived s w (receive_read u d r)) (sym part.read)
     (subst (λ (k : Option Key). IsReceived s w (receive_packet u d.from h payload k)) (sym named) (record { heard = tt; unfinished = all }))
 
-reply-part : (s : Setup) (w : ProtocolState) (u : List Unfinished) (d : Datagram) → All (HasTablesParts w.table) u → IsReplyPart w d → IsReceived s w (receive u (event.Datagram d))
+reply-part : (s : Setup) (w : ProtocolState) (u : List Unfinished) (d : Datagram) → All (HasTablesParts w.table) u → IsMadeReplyPart w d → IsReceived s w (receive u (event.Datagram d))
 unfolding reply_parts
 reply-part s w u d all is =
     let r = is.reply in

@@ -1,6 +1,8 @@
 -- Each run is a list of the protocol's rules, what was applied in it is one list, and by that the group serves as one thread.
 use Rattle.std.proofs.Common.{◌≡◌, List, [], ◌∷◌, ◌++◌, length, refl, sym, subst}
 use Rattle.std.proofs.lemmas.List.Elements.{All-nil}
+use Rattle.hc_rules.specs.Log.{In}
+use Rattle.hc_rules.specs.Message.{Reply}
 use Rattle.hc_rules.specs.Protocol.{ProtocolState}
 use Rattle.hc_rules.specs.Runs.{after_rules}
 use Rattle.hc_rules.proofs.Answers.{given_within_bounds}
@@ -8,18 +10,20 @@ use Rattle.hc_run.specs.Held.{IsWhole}
 use Rattle.hc_run.specs.Group.{Group, IsGroup}
 use Rattle.hc_run.specs.State.{GroupState, Passed, beginning}
 use Rattle.hc_run.specs.Events.{GroupEvent}
-use Rattle.hc_run.specs.AsOne.{GroupsServeAsOne, TheListGrows}
-use Rattle.hc_run.specs.OneList.{AppliedIsOneList}
+use Rattle.hc_run.specs.AsOne.{GroupsServeAsOne, IsReplyOf, TheListGrows}
+use Rattle.hc_run.specs.OneList.{AppliedIsOneList, ListGrows, applied_list}
 use Rattle.hc_run.specs.Runs.{ArePossible, IsRun, after_events, run}
+use Rattle.hc_run.specs.ServesOn.{GroupsServeOn}
 use Rattle.hc_run.specs.Shows.{Shows}
 use Rattle.hc_run.specs.Steps.{step}
 use Rattle.hc_run.specs.StepLaws.{HasRules, LeadsTo, RunsAreRules, bounds_of, protocol_of}
 use Rattle.hc_run.proofs.AllSteps.{steps_are_rules}
-use Rattle.hc_run.proofs.AsOne.{bounded, in-order, reply-is, serves}
+use Rattle.hc_run.proofs.AsOne.{after-replies, bounded, in-order, reply-is, serves}
 use Rattle.hc_run.proofs.Beginnings.{beginning_is_shown}
 use Rattle.hc_run.proofs.Gaps.{HasNoGaps, rules-gaps}
 use Rattle.hc_run.proofs.Growing.{HasAll, events-add, list-grows}
 use Rattle.hc_run.proofs.OneList.{one-list}
+use Rattle.hc_run.proofs.ReplyParts.{reply-parts}
 use Rattle.hc_run.proofs.ReplyFacts.{RepliesWerePassed, rules-passed}
 use Rattle.hc_run.proofs.Stretches.{leads-at-once, leads-then}
 use Rattle.hc_run.proofs.WholeBodies.{AreWhole, step-whole}
@@ -38,11 +42,11 @@ runs_are_rules g events is runs =
     record { rules = leads.rules; are = record { allowed = leads.allowed }; shown = leads.shown }
 
 -- events after others lead on from where those led
-events-follow : (g : Group) (s : GroupState) (events more : List GroupEvent) → after_events g s (events ++ more) ≡ after_events g (after_events g s events) more
+pub events-follow : (g : Group) (s : GroupState) (events more : List GroupEvent) → after_events g s (events ++ more) ≡ after_events g (after_events g s events) more
 events-follow g s [] more = refl
 events-follow g s (e ∷ events) more = events-follow g (step g s e) events more
 
-possible-parts : (g : Group) (s : GroupState) (events more : List GroupEvent) → ArePossible g s (events ++ more)
+pub possible-parts : (g : Group) (s : GroupState) (events more : List GroupEvent) → ArePossible g s (events ++ more)
     → ArePossible g s events × ArePossible g (after_events g s events) more
 possible-parts g s [] more may = (tt, may)
 possible-parts g s (e ∷ events) more may = let rest = possible-parts g (step g s e) events more may.1 in ((may.0, rest.0), rest.1)
@@ -91,14 +95,17 @@ groups_serve_as_one g events is runs =
     let s = run g events in
     let shows = has.shown in
     let one = applied_is_one_list g events is runs has in
+    let replies : (r : Reply) → In r s.replied → IsReplyOf (applied_list s) r = λ r there. reply-is g w s is shows facts.whole facts.none facts.were one.bodies r (shows.replied r there) in
     let given = given_within_bounds (length g.members) (bounds_of g) has.rules has.are in
     record {
       entries = one.each;
       only = one.only;
       bodies = one.bodies;
       once = one.once;
-      replies = λ r there. reply-is g w s is shows facts.whole facts.none facts.were one.bodies r (shows.replied r there);
-      order = in-order g w s is shows facts.whole facts.none;
+      replies = replies;
+      parts = reply-parts g is events runs.possible;
+      order = in-order g w s is shows facts.whole facts.none replies;
+      entries_in_order = after-replies g w s is shows facts.whole facts.none;
       services = serves g w s is shows facts.whole facts.none;
       bounds = λ v m up. bounded g w s is shows facts.whole facts.none v m up (given.of_log v);
     }
@@ -114,3 +121,13 @@ the_list_grows g events more is runs =
     let later = runs_are_rules g (events ++ more) is runs in
     list-grows s (run g (events ++ more)) _ _ (applied_is_one_list g events is before has) (applied_is_one_list g (events ++ more) is runs later)
     (subst (λ (t : GroupState). HasAll s t) (sym follow) (events-add g s more))
+
+-- so it serves on
+pub groups_serve_on : GroupsServeOn
+groups_serve_on g events is runs =
+    record {
+      serves = groups_serve_as_one g events is runs;
+      agreed = record { rules = runs_are_rules g events is runs; prefix = λ has. (applied_is_one_list g events is runs has).prefix };
+      grows = λ earlier later whole.
+          subst (λ (l : List GroupEvent). ListGrows (run g earlier) (run g l)) whole (the_list_grows g earlier later is (subst (IsRun g) (sym whole) runs));
+    }

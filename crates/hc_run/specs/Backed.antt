@@ -102,7 +102,7 @@ pub record IsRecoveryPart (table : List Request) (d : Datagram) : Type 0 where
   pub part : In d (parts_of (recover_spec d.from d.to rid) (message_bytes message))
 
 -- it is a part of a reply that was made
-pub record IsReplyPart (w : ProtocolState) (d : Datagram) : Type 0 where
+pub record IsMadeReplyPart (w : ProtocolState) (d : Datagram) : Type 0 where
   pub reply : KeptReply
   pub right : IsReply reply
   pub fits : FitsRid reply.rid
@@ -112,4 +112,4 @@ pub record IsReplyPart (w : ProtocolState) (d : Datagram) : Type 0 where
 -- a datagram that was sent is one of these
 abbrev pub IsBackedDatagram : List Addr → ProtocolState → Datagram → Type 0
 IsBackedDatagram members w d =
-    IsRequestPart w.table d ⊎ (IsMessage members w d ⊎ (IsRecoveryPart w.table d ⊎ IsReplyPart w d))
+    IsRequestPart w.table d ⊎ (IsMessage members w d ⊎ (IsRecoveryPart w.table d ⊎ IsMadeReplyPart w d))

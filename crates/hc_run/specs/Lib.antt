@@ -11,11 +11,15 @@ pub mod Rows
 pub mod RowLaws
 pub mod Halves
 pub mod Aggregating
+pub mod AggregatorTurns
 pub mod WholeTurns
 pub mod Receiving
 pub mod Sparing
 pub mod StepLaws
 pub mod OneList
+pub mod ReplyParts
 pub mod AsOne
+pub mod ServesOn
+pub mod Staying
 pub mod Laws
 pub mod Examples

@@ -40,12 +40,20 @@ EachWasApplied s =
     (index : ℕ) → 1 ≤ index → index ≤ length (applied_list s)
     → (member : ℕ) × In (record { member = member; index = index; stored = stored_at (applied_list s) index }) s.passed
 
+-- the list of what was applied in one state is a prefix of that in another
+abbrev pub ListGrows : GroupState → GroupState → Type 0
+ListGrows s t = Share (length (applied_list s)) (applied_list s) (applied_list t)
+
+-- what was applied is a prefix of a list of entries, the bodies left out
+abbrev pub IsPrefixOf : GroupState → List Entry → Type 0
+IsPrefixOf s agreed = Share (length (applied_list s)) (metas_of (applied_list s)) agreed
+
 -- what was applied in a group is one list, which is a prefix of the agreed one: all that any member applied in any of its lives is the
 -- list's at its index, and each entry of the list was applied by some member; bodies are the table's, and no request is found twice
 pub record IsOneList (s : GroupState) (agreed : List Entry) : Type 0 where
   pub each : (x : Passed) → In x s.passed → IsItsEntry (applied_list s) x
   pub only : EachWasApplied s
-  pub prefix : Share (length (applied_list s)) (metas_of (applied_list s)) agreed
+  pub prefix : IsPrefixOf s agreed
   pub bodies : All (IsWhole s.table) (applied_list s)
   pub once : HasNoneTwice (metas_of (applied_list s))
 

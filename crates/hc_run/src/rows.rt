@@ -3,6 +3,7 @@
 //! become of it, and that has as sent all that it sends.
 
 ghost use Rattle.hc_run.specs.Aggregating.{AggregatingIsRules};
+ghost use Rattle.hc_run.specs.AggregatorTurns.{AggregatorTurnsAreRules};
 ghost use Rattle.hc_run.specs.Halves.{CountingIsRules, FinishIsRules, OrderingIsRules};
 ghost use Rattle.hc_run.specs.Sparing.{AggregatorsSpareMembers, ClientsSpareMembers, MembersSpareOthers, TurnsSpareOthers};
 ghost use Rattle.hc_run.specs.WholeTurns.{SettlingIsRules, TurnsAreRules};
@@ -84,6 +85,12 @@ pub fn counting_is_rules()
 /// in-network aggregation).
 pub fn aggregating_is_rules()
     ensures { AggregatingIsRules }
+{}
+
+/// So a whole turn of the aggregator is, at any event: at any datagram that was sent, as its bytes are read, at a tick, and where nothing
+/// comes.
+pub fn aggregator_turns_are_rules()
+    ensures { AggregatorTurnsAreRules }
 {}
 
 /// What follows a row, all together: a leader orders, sends and counts, and the next batch is set aside.

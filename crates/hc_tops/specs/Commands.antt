@@ -29,8 +29,7 @@ use Rattle.cmd_client.specs.Calls.{Calls, IsCalled}
 use Rattle.cmd_client.specs.Script.{IsScript as IsCallScript}
 use Rattle.cmd_replay.specs.Grammar.{IsScript}
 use Rattle.cmd_replay.specs.Replay.{IsComplete, IsReplay}
-use Rattle.hc_run.specs.AsOne.{ServesAsOne}
-use Rattle.hc_world.specs.Runs.{run_of}
+use Rattle.hc_world.specs.Runs.{ServesThroughout}
 use Rattle.cmd_simulate.specs.declared.plan.Plan.{Plan}
 use Rattle.cmd_simulate.specs.Generator.{generated, group_of}
 use Rattle.cmd_simulate.specs.Plans.{IsPlan}
@@ -84,10 +83,10 @@ pub record RunsRouter (listen : Addr) (servers : List Addr) (n workers : ℕ) (p
   pub alone : workers ≡ 1 → Routes (record { me = listen; servers = servers; n = n }) pace old new status
   pub shared : 2 ≤ workers → Shares (length servers * n) workers pace old new status
 
--- a simulation of a plan, what was written of it, and the group that was simulated: in the run of it the group serves as one thread
+-- a simulation of a plan, what was written of it, and the group that was simulated: at each moment of the run the group serves as one thread
 pub record SimulatesGroup (plan : Plan) (written written' : Option (List ℕ)) (status : Status) : Type 0 where
   pub printed : Simulates plan written written' status
-  pub serves : ServesAsOne (group_of plan) (run_of (group_of plan) (generated plan))
+  pub serves : ServesThroughout (group_of plan) (generated plan)
 
 abbrev pub row : Meant → Row
 row (Replica members me journal aggregator bounds election tick_ms turns) = record {

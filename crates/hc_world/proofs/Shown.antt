@@ -36,9 +36,9 @@ abbrev pub sent_all : ℕ → List WorldEvent → ℕ
 sent_all sent [] = sent
 sent_all sent (e ∷ more) = sent_all (sent_after sent e) more
 
-pub events-append : (sent : ℕ) (events : List WorldEvent) (e : WorldEvent) → events_of sent (events ++ e ∷ []) ≡ events_of sent events ++ event_of (sent_all sent events) e ∷ []
-events-append sent [] e = refl
-events-append sent (x ∷ more) e = ap (λ (rest : List GroupEvent). event_of sent x ∷ rest) (events-append (sent_after sent x) more e)
+pub events-append : (sent : ℕ) (events more : List WorldEvent) → events_of sent (events ++ more) ≡ events_of sent events ++ events_of (sent_all sent events) more
+events-append sent [] more = refl
+events-append sent (x ∷ events) more = ap (λ (rest : List GroupEvent). event_of sent x ∷ rest) (events-append (sent_after sent x) events more)
 
 -- The table --
 
@@ -200,7 +200,7 @@ shows-more g events e w world new shows here may after =
     let same : w ≡ seen g s = some_is _ _ _ here shows.seen in
     let may_there : MayHappen (seen g s) e = subst (λ (x : Seen). MayHappen x e) same may in
     let may_group = possible-there g s sent e numbered may_there in
-    let list = events-append 0 events e in
+    let list = events-append 0 events (e ∷ []) in
     let longer : run_of g (events ++ e ∷ []) ≡ step g s (event_of sent e) =
     ap (run g) list ∙ fold-append (step g) (beginning g) (events_of 0 events) (event_of sent e ∷ []) in
     let possible = shows.possible in

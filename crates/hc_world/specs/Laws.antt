@@ -14,7 +14,7 @@ use Rattle.hc_world.specs.declared.event.WorldEvent.{WorldEvent}
 use Rattle.hc_world.specs.Addresses.{rid_of}
 use Rattle.hc_world.specs.Events.{events_of}
 use Rattle.hc_world.specs.Notes.{capped, is_answered, replies_in}
-use Rattle.hc_world.specs.Runs.{run_of}
+use Rattle.hc_world.specs.Runs.{ServesThroughout, run_of}
 use Rattle.hc_world.specs.Seen.{counts_of, greatest, greatest_passed, seen, term_of}
 
 -- Replies --
@@ -61,3 +61,9 @@ abbrev pub CountsAreOfFacts : Type 0
 CountsAreOfFacts =
     (g : Group) (events : List WorldEvent)
     → IsGroup g → IsRun g (events_of 0 events) → counts_of (seen g (run_of g events)) ≡ facts_of (run_of g events)
+
+-- One thread --
+
+-- in every run of a world's events the group serves as one thread, at each moment
+abbrev pub GroupsServeThroughout : Type 0
+GroupsServeThroughout = (g : Group) (events : List WorldEvent) → IsGroup g → IsRun g (events_of 0 events) → ServesThroughout g events

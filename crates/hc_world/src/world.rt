@@ -1,7 +1,7 @@
 ghost use Rattle.std.specs.Prelude.{◌≡◌, ◌≤◌, ◌<◌, ◌++◌, ◌∷◌, [], List, Some, None, length, slice_get, IfOk, OnOk, OnErr};
 ghost use Rattle.hc_replier.specs.Bounds.{AreBounds, most_members};
-ghost use Rattle.hc_run.specs.AsOne.{ServesAsOne};
 ghost use Rattle.hc_run.specs.Group.{Group, IsGroup};
+ghost use Rattle.hc_run.specs.ServesOn.{ServesOn};
 ghost use Rattle.hc_world.specs.Addresses.{group_at};
 
 use crate::counts::Counts;
@@ -38,8 +38,8 @@ impl Model for World {
 }
 
 impl World {
-    ghost use Rattle.hc_world.specs.Events.{IsPossible};
-    ghost use Rattle.hc_world.specs.Runs.{ShowsRun, run_of};
+    ghost use Rattle.hc_world.specs.Events.{IsPossible, events_of};
+    ghost use Rattle.hc_world.specs.Runs.{ShowsRun};
     ghost use Rattle.hc_world.specs.Seen.{Seen, counts_in, datagrams_in, is_for_group_in, is_up_in};
     ghost use Rattle.hc_world.specs.Steps.{seen_after};
 
@@ -73,8 +73,8 @@ impl World {
         // A world that shows a run shows the run that goes on by the event.
         ensures run { OnOk result ((g : Group) (events : List WorldEvent) → ShowsRun g events self.old → ShowsRun g (events ++ event ∷ []) self.new) }
 
-        // The group serves as one thread in that run.
-        ensures serves { OnOk result ((g : Group) (events : List WorldEvent) → ShowsRun g events self.old → ServesAsOne g (run_of g (events ++ event ∷ []))) }
+        // In that run the group serves as one thread, by a list that only grew and is a prefix of the agreed one.
+        ensures serves { OnOk result ((g : Group) (events : List WorldEvent) → ShowsRun g events self.old → ServesOn g (events_of 0 (events ++ event ∷ []))) }
         ensures spent { OnErr result (self.new ≡ None) }
     {
         let Some(mut live) = self.live.take() else {

@@ -105,6 +105,7 @@ impl<T: Ledger, S: Ledger, A: Ledger, F: Ledger, W: Ledger, const TRAIL: u16> Ro
     pub(crate) fn can_turn(&self, pass: &Pass<T, S, A, F, W, TRAIL>) -> bool
         ensures room { result ≡ true → self.now.turns < most_router_turns }
         ensures next { result ≡ true → pass.now.seen ≤ self.now.turns }
+        ensures only { self.now.turns < most_router_turns → pass.now.seen ≤ self.now.turns → result ≡ true }
     {
         let has_room = self.turns < MOST_BOOK_TURNS;
         has_room && pass.seen <= self.turns

@@ -1,5 +1,5 @@
 -- The workers share a new router, and their totals are told.
-use Rattle.std.proofs.Common.{◌≡◌, ◌*◌, ℕ, length, ap, subst, arith}
+use Rattle.std.proofs.Common.{◌≡◌, ◌*◌, ℕ, length, ap, subst}
 use Rattle.r2_jbsq.specs.State.{RouterState, slots_of}
 use Rattle.cmd_loop.specs.Ends.{Ends}
 use Rattle.cmd_router.specs.Works.{SharesRouter}
@@ -17,4 +17,4 @@ returns-in-Ok-shared-clause-shared g c o =
     let k = c.in-Ok-shared.ensures.shared whole o in
     subst (λ (m : ℕ). SharesRouter m c.args.workers c.args.pace a b shared.totals shared.ended) slots
     (record { first = k.first; others = k.others; work = k.work; counts = k.counts }))
-    c.tell_end.ensures.untold c.tell_end.ensures.told c.in-Ok-shared.ensures.known
+    c.in-Ok-shared.ensures.ran c.tell_end.ensures.untold c.tell_end.ensures.told c.in-Ok-shared.ensures.known

@@ -2,7 +2,7 @@ use Rattle.std.proofs.Common.{◌≡◌, Option, Some, sym, ap, subst, ◌∙◌
 use Rattle.hc_world.specs.Events.{IsPossible, MayHappen}
 use Rattle.hc_world.specs.Live.{seen_in, seen_of}
 use Rattle.hc_world.specs.Seen.{Seen}
-use Rattle.hc_world.proofs.OneThread.{serves-as_one}
+use Rattle.hc_world.proofs.OneThread.{serves-on}
 use Rattle.hc_world.proofs.Shown.{shows-more}
 use Rattle.hc_world.proofs.world.World.step.Goals as goal
 
@@ -19,5 +19,5 @@ returns-clause-serves c =
     let may : MayHappen (seen_of c.in-Some.live) c.args.event = subst (λ (o : Option Seen). IsPossible o c.args.event) here c.requires in
     let did = c.in_ok-step.ensures in
     λ g events shows.
-    serves-as_one g _ c.step.new.self did.is
+    serves-on g _ c.step.new.self did.is
     (shows-more g events c.args.event (seen_of c.in-Some.live) c.args.self.now (Some (seen_of c.step.new.self)) shows here may (ap Some did.seen))
