@@ -7,3 +7,7 @@ pub mod Loops
 pub mod LoopLives
 pub mod Examples
 pub mod AggregatorLoops
+pub mod ReadParts
+pub mod Sessions
+pub mod ClientRuns
+pub mod ClientAnswers

@@ -6,3 +6,4 @@ pub mod Loops
 pub mod LoopLives
 pub mod Examples
 pub mod AggregatorLoops
+pub mod Answers

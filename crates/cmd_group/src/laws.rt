@@ -1,6 +1,7 @@
 //! What holds of the loops of every group.
 
 ghost use Rattle.cmd_group.specs.AggregatorLoops.{AggregatorsMakeTurns};
+ghost use Rattle.cmd_group.specs.Answers.{ClientsPrintReplies, LoopsAnswerClients};
 ghost use Rattle.cmd_group.specs.Examples.{IsWorked};
 ghost use Rattle.cmd_group.specs.LoopLives.{LoopsAreLives, LostRecordsMayStay};
 ghost use Rattle.cmd_group.specs.Loops.{LoopsAreRuns, LoopsServeAsOne};
@@ -49,4 +50,17 @@ pub fn lost_records_may_stay()
 /// which a prefix was sent.
 pub fn aggregators_make_turns()
     ensures { AggregatorsMakeTurns }
+{}
+
+/// Each line that the client's command prints for a reply shows the payload of a whole reply to the call's request, where only parts of
+/// replies came that have one payload for one request: so a client may join parts of several members' replies, in any order.
+pub fn clients_print_replies()
+    ensures { ClientsPrintReplies }
+{}
+
+/// So the loops of a group answer a client as one thread does. Where each part of a reply that came to the client is one that a loop sent
+/// to it, each line that it prints for a reply shows what one thread replies to that call's request which serves the one list from its
+/// beginning.
+pub fn loops_answer_clients()
+    ensures { LoopsAnswerClients }
 {}
