@@ -5,9 +5,16 @@ pub mod Lives
 pub mod InOrder
 pub mod Loops
 pub mod LoopLives
+pub mod StoredTurns
+pub mod DiskMoments
+pub mod Crashes
+pub mod Processes
 pub mod Examples
 pub mod AggregatorLoops
 pub mod ReadParts
 pub mod Sessions
 pub mod ClientRuns
 pub mod ClientAnswers
+pub mod Requests
+pub mod ClientSends
+pub mod ClientExamples

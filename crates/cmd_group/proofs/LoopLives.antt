@@ -24,7 +24,7 @@ use Rattle.cmd_loop.specs.Round.{Makes}
 use Rattle.cmd_replica.specs.Replica.{ReplicaServes, ReplicaServesAll, Served, serve_one, served, unserved}
 use Rattle.cmd_replica.specs.Party.{served-push}
 use Rattle.cmd_group.specs.Members.{AreFirst, closing_sends, turn_sends}
-use Rattle.cmd_group.specs.Lives.{Ending, Stopped, Broken, Closed, IsLife, Life, sent_in, stored_in}
+use Rattle.cmd_group.specs.Lives.{Ending, Stopped, Broken, Closed, IsEnd, IsLife, Life, sent_in, stored_in}
 use Rattle.cmd_group.specs.LoopLives.{HasLife, KeepsRecord, LoopsAreLives, LostRecordsMayStay, taken_in}
 
 -- Lists --
@@ -122,16 +122,15 @@ module _ (s : Setup) where
     abbrev lived : List Event → Ending → Life
     lived es ending = record { records = from; events = es; ending = ending }
 
-    has-life : (items : List Item) (moments : List ℕ) (life : Life) (left : List Event) (stored kept : List Record) (sent : List Datagram) → life.records ≡ from → IsLife s life
+    has-life : (items : List Item) (moments : List ℕ) (life : Life) (left : List Event) (stored kept : List Record) (sent : List Datagram) → life.records ≡ from → IsLife s life → IsEnd life.ending
         → events pace.tick_ms items moments ≡ taken_in life ++ left → stored_in s life ≡ stored ++ kept → sent ≡ sent_in s life → Passes old new (passing items moments stored sent)
-        → HasLife s from pace old new kept
-    has-life items moments life left stored kept sent begins is taken journal same passed =
+        → HasLife s from pace old new items moments kept
+    has-life items moments life left stored kept sent begins is over taken journal same passed =
         record {
           life = life;
           begins = begins;
           is = is;
-          items = items;
-          moments = moments;
+          over = over;
           left = left;
           taken = taken;
           stored = stored;
@@ -141,16 +140,16 @@ module _ (s : Setup) where
 
     -- it is over between two turns
     stopped-life : (items : List Item) (moments : List ℕ) (es left : List Event) → events pace.tick_ms items moments ≡ es ++ left → Makes (R (came es)) old new items moments
-        → HasLife s from pace old new []
+        → HasLife s from pace old new items moments []
     stopped-life items moments es left taken made =
         let right = made.right in
-        has-life items moments (lived es Stopped) left made.stored [] made.sends refl tt
+        has-life items moments (lived es Stopped) left made.stored [] made.sends refl tt tt
         (taken ∙ ap (λ (l : List Event). l ++ left) (sym (append-nil es)))
         (ap (λ (l : List Record). l ++ []) (sym right.0))
         (right.1 ∙ sym (append-nil (after es).sent))
         made.passed
 
-    whole : (items : List Item) (moments : List ℕ) → Makes (R (came (events pace.tick_ms items moments))) old new items moments → HasLife s from pace old new []
+    whole : (items : List Item) (moments : List ℕ) → Makes (R (came (events pace.tick_ms items moments))) old new items moments → HasLife s from pace old new items moments []
     whole items moments made =
         let es = events pace.tick_ms items moments in
         stopped-life items moments es [] (sym (append-nil es)) made
@@ -158,17 +157,17 @@ module _ (s : Setup) where
     -- after turns after the end of its link, of the last of which a prefix was sent
     closed-life : (items : List Item) (moments : List ℕ) (times : ℕ) (stored : List Record) (gone : List Datagram) (sent : List Datagram) → 1 ≤ times
         → AreFirst gone (closing_sends s (after (events pace.tick_ms items moments)).member times) → stored ≡ (after (events pace.tick_ms items moments)).stored
-        → sent ≡ (after (events pace.tick_ms items moments)).sent ++ gone → Passes old new (passing items moments stored sent) → HasLife s from pace old new []
+        → sent ≡ (after (events pace.tick_ms items moments)).sent ++ gone → Passes old new (passing items moments stored sent) → HasLife s from pace old new items moments []
     closed-life items moments times stored gone sent some are same goes passed =
         let es = events pace.tick_ms items moments in
-        has-life items moments (lived es (Closed times gone)) [] stored [] sent refl (some, are)
+        has-life items moments (lived es (Closed times gone)) [] stored [] sent refl (some, are) tt
         (sym (append-nil es) ∙ ap (λ (l : List Event). l ++ []) (sym (append-nil es)))
         (ap (λ (l : List Record). l ++ []) (sym same))
         goes passed
 
     -- so many turns after the end were made whole
     closed-whole : (items : List Item) (moments : List ℕ) (times : ℕ) → 1 ≤ times → Makes (R (closed times (came (events pace.tick_ms items moments)))) old new items moments
-        → HasLife s from pace old new []
+        → HasLife s from pace old new items moments []
     closed-whole items moments times some made =
         let es = events pace.tick_ms items moments in
         let right = made.right in
@@ -186,7 +185,7 @@ module _ (s : Setup) where
         (e ∙ ap (λ (l : List Happening). l ++ last ∷ []) one.before_of ∙ ap (λ (h : Happening). came one.first ++ h ∷ []) one.last_of)
         ∙ served-push s first (came one.first) (Came one.event)
 
-    part-of-event : (items : List Item) (moments : List ℕ) → GivesPart R (came (events pace.tick_ms items moments)) old new items moments → HasLife s from pace old new []
+    part-of-event : (items : List Item) (moments : List ℕ) → GivesPart R (came (events pace.tick_ms items moments)) old new items moments → HasLife s from pace old new items moments []
     part-of-event items moments part =
         let es = events pace.tick_ms items moments in
         let is_last = part.is_last in
@@ -202,13 +201,14 @@ module _ (s : Setup) where
         append_cancel_left so_far.sent (turn_sends s so_far.member e) (part.sent ++ part.unsent) (sym sent ∙ ap (λ (l : List Datagram). l ++ (part.sent ++ part.unsent)) before.1) in
         has-life items moments (lived one.first (Broken e part.sent)) [] (part.records ++ part.stored) [] (part.earlier ++ part.sent) refl
         (record { unsent = part.unsent; split = rest })
+        tt
         (one.all ∙ sym (append-nil (one.first ++ e ∷ [])))
         (sym stored ∙ sym (append-nil (part.records ++ part.stored)))
         (ap (λ (l : List Datagram). l ++ part.sent) before.1)
         part.passed
 
     -- a turn after the end
-    part-of-closing : (items : List Item) (moments : List ℕ) (n : ℕ) → GivesPart R (closed (suc n) (came (events pace.tick_ms items moments))) old new items moments → HasLife s from pace old new []
+    part-of-closing : (items : List Item) (moments : List ℕ) (n : ℕ) → GivesPart R (closed (suc n) (came (events pace.tick_ms items moments))) old new items moments → HasLife s from pace old new items moments []
     part-of-closing items moments n part =
         let es = events pace.tick_ms items moments in
         let is_last = part.is_last in
@@ -234,14 +234,14 @@ module _ (s : Setup) where
         (ap (λ (l : List Datagram). l ++ part.sent) earlier ∙ append_assoc so_far.sent some part.sent)
         part.passed
 
-    part-life : (items : List Item) (moments : List ℕ) (closings : ℕ) → GivesPart R (closed closings (came (events pace.tick_ms items moments))) old new items moments → HasLife s from pace old new []
+    part-life : (items : List Item) (moments : List ℕ) (closings : ℕ) → GivesPart R (closed closings (came (events pace.tick_ms items moments))) old new items moments → HasLife s from pace old new items moments []
     part-life items moments zero part = part-of-event items moments part
     part-life items moments (suc n) part = part-of-closing items moments n part
 
     -- Turns that were lost --
 
     -- the turn of an event
-    lost-event : (items : List Item) (moments : List ℕ) → LosesTurn R (came (events pace.tick_ms items moments)) old new items moments → HasLife s from pace old new []
+    lost-event : (items : List Item) (moments : List ℕ) → LosesTurn R (came (events pace.tick_ms items moments)) old new items moments → HasLife s from pace old new items moments []
     lost-event items moments loses =
         let es = events pace.tick_ms items moments in
         let is_last = loses.is_last in
@@ -249,11 +249,11 @@ module _ (s : Setup) where
         stopped-life items moments one.first (one.event ∷ []) one.all (subst (λ (l : List Happening). Makes (R l) old new items moments) one.before_of loses.made)
 
     -- a turn after the end, of which so many were whole
-    lost-closing : (items : List Item) (moments : List ℕ) (n : ℕ) → Makes (R (closed n (came (events pace.tick_ms items moments)))) old new items moments → HasLife s from pace old new []
+    lost-closing : (items : List Item) (moments : List ℕ) (n : ℕ) → Makes (R (closed n (came (events pace.tick_ms items moments)))) old new items moments → HasLife s from pace old new items moments []
     lost-closing items moments zero made = whole items moments made
     lost-closing items moments (suc n) made = closed-whole items moments (suc n) (omega arith) made
 
-    lost-life : (items : List Item) (moments : List ℕ) (closings : ℕ) → LosesTurn R (closed closings (came (events pace.tick_ms items moments))) old new items moments → HasLife s from pace old new []
+    lost-life : (items : List Item) (moments : List ℕ) (closings : ℕ) → LosesTurn R (closed closings (came (events pace.tick_ms items moments))) old new items moments → HasLife s from pace old new items moments []
     lost-life items moments zero loses = lost-event items moments loses
     lost-life items moments (suc n) loses =
         let es = events pace.tick_ms items moments in
@@ -262,7 +262,7 @@ module _ (s : Setup) where
         lost-closing items moments n (subst (λ (l : List Happening). Makes (R l) old new items moments) (sym pushed.before) loses.made)
 
     -- the record of the turn of an event is kept all the same
-    kept-life : (items : List Item) (moments : List ℕ) → LosesTurn R (came (events pace.tick_ms items moments)) old new items moments → KeepsRecord s from pace old new
+    kept-life : (items : List Item) (moments : List ℕ) → LosesTurn R (came (events pace.tick_ms items moments)) old new items moments → KeepsRecord s from pace old new items moments
     unfolding has-life
     kept-life items moments loses =
         let es = events pace.tick_ms items moments in
@@ -278,6 +278,7 @@ module _ (s : Setup) where
           has =
               has-life items moments (lived one.first (Broken e [])) [] made.stored kept made.sends refl
               (record { unsent = turn_sends s so_far.member e; split = refl })
+              tt
               (one.all ∙ sym (append-nil (one.first ++ e ∷ [])))
               (ap (λ (l : List Record). l ++ kept) (sym right.0))
               (right.1 ∙ sym (append-nil so_far.sent))
@@ -288,16 +289,16 @@ module _ (s : Setup) where
 
     -- Ends --
 
-    between : (items : List Item) (moments : List ℕ) → EndsBetween R pace old new items moments → HasLife s from pace old new []
+    between : (items : List Item) (moments : List ℕ) → EndsBetween R pace old new items moments → HasLife s from pace old new items moments []
     between items moments ends = whole items moments ends.made
 
     -- a loop that did nothing
-    nothing-life : Passes old new nothing → HasLife s from pace old new []
+    pub nothing-life : Passes old new nothing → HasLife s from pace old new [] [] []
     unfolding served
-    nothing-life passed = has-life [] [] (lived [] Stopped) [] [] [] [] refl tt refl refl refl passed
+    nothing-life passed = has-life [] [] (lived [] Stopped) [] [] [] [] refl tt tt refl refl refl passed
 
     ended-life : (items : List Item) (moments : List ℕ) (closings : ℕ) (at : Status)
-        → Ended (ReplicaServesAll s (replay from)) R R pace old new items moments closings at → HasLife s from pace old new []
+        → Ended (ReplicaServesAll s (replay from)) R R pace old new items moments closings at → HasLife s from pace old new items moments []
     ended-life items moments closings status.Done ended =
         let made = ended.1 in
         let right = made.right in
@@ -307,7 +308,9 @@ module _ (s : Setup) where
     ended-life items moments closings status.LinkFault (inl ended) = between items moments ended.1
     ended-life items moments closings status.LinkFault (inr part) = part-life items moments closings part
     ended-life items moments closings status.DiskFault ended = lost-event items moments ended.1
-    ended-life items moments closings status.Memory (inl ended) = nothing-life ended.0
+    ended-life items moments closings status.Memory (inl ended) =
+        subst (λ (l : List ℕ). HasLife s from pace old new items l []) (sym ended.2)
+        (subst (λ (l : List Item). HasLife s from pace old new l [] []) (sym ended.1) (nothing-life ended.0))
     ended-life items moments closings status.Memory (inr (inl ended)) = between items moments ended.1
     ended-life items moments closings status.Memory (inr (inr loses)) = lost-life items moments closings loses
     ended-life items moments closings status.BadWords ended = absurd ended

@@ -6,4 +6,8 @@ pub mod Loops
 pub mod LoopLives
 pub mod Examples
 pub mod AggregatorLoops
+pub mod Crashes
+pub mod Processes
 pub mod Answers
+pub mod Asked
+pub mod ClientExamples

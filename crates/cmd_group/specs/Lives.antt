@@ -83,6 +83,11 @@ place_of s life = record { journal = life.records ++ stored_in s life; member = 
 
 -- One life after another --
 
+-- an ending other than going on
+abbrev pub IsEnd : Ending → Type 0
+IsEnd Open = ⊥
+IsEnd _ = Unit {0}
+
 -- a life is over where another one follows
 abbrev pub IsOver : Ending → List Life → Type 0
 IsOver Open (life ∷ more) = ⊥
